@@ -1,0 +1,136 @@
+-- The laws of single bits, and what the machine's shifts, masks and counts are of them. Each goes down the bits as `bit` does, by halves.
+-- Assumes nothing.
+use mathlib.Core.Path.{_≡_, refl, sym, ap, _∙_}
+use mathlib.Core.Logic.{_≢_}
+use Prim.Native.Nat.{ℕ, zero, suc, _+_, _*_, _-_, _/_, _%_, _^_, _<_, max}
+use native.Mathlib.Omega.{arith}
+use native.Mathlib.Numerals.{one-add}
+use native.Mathlib.Nat.{pow-suc, one-mul, mod-eq-of-lt}
+use lib.Pow.{shr-shr, pow-pos, pow-lt}
+use lib.Bits.{bitOr, bitXor, bitAnd, or-step, xor-step, or-zero-r, xor-zero-r, and-mask, differ}
+use lib.Count.{trailingZeros, under}
+use Rattle.environment.specs.Bits.{bit, clear, raise}
+
+-- a bit is 0 or 1, and 0 has none set
+pub bit-lt : (n k : ℕ) → bit n k < 2
+unfolding bit
+bit-lt n zero = omega arith
+bit-lt n (suc k) = bit-lt (n / 2) k
+
+pub bit-of-zero : (k : ℕ) → bit 0 k ≡ 0
+unfolding bit
+bit-of-zero zero = refl
+bit-of-zero (suc k) = bit-of-zero k
+
+-- the lowest bit of a number made of a half and a lowest bit, and its half
+module _ (x n : ℕ) where
+  half-join : (x * 2 + n % 2) / 2 ≡ x
+  half-join = omega arith
+
+  lowest-join : (x * 2 + n % 2) % 2 ≡ n % 2
+  lowest-join = omega arith
+
+-- bit k cleared, and the others
+pub clear-same : (n k : ℕ) → bit (clear n k) k ≡ 0
+unfolding bit clear
+clear-same n zero = omega arith
+clear-same n (suc k) = rw half-join (clear-same (n / 2) k)
+
+pub clear-other : (n k j : ℕ) → j ≢ k → bit (clear n k) j ≡ bit n j
+unfolding bit clear
+clear-other n zero zero h = absurd (h refl)
+clear-other n zero (suc j) h = let e : n / 2 * 2 / 2 ≡ n / 2 = omega arith in rw e
+clear-other n (suc k) zero h = lowest-join (clear (n / 2) k) n
+clear-other n (suc k) (suc j) h = rw half-join (clear-other (n / 2) k j (λ e. h (ap suc e)))
+
+-- bit k set, and the others
+pub raise-same : (n k : ℕ) → bit (raise n k) k ≡ 1
+unfolding bit raise
+raise-same n zero = omega arith
+raise-same n (suc k) = rw half-join (raise-same (n / 2) k)
+
+pub raise-other : (n k j : ℕ) → j ≢ k → bit (raise n k) j ≡ bit n j
+unfolding bit raise
+raise-other n zero zero h = absurd (h refl)
+raise-other n zero (suc j) h = let e : (n / 2 * 2 + 1) / 2 ≡ n / 2 = omega arith in rw e
+raise-other n (suc k) zero h = lowest-join (raise (n / 2) k) n
+raise-other n (suc k) (suc j) h = rw half-join (raise-other (n / 2) k j (λ e. h (ap suc e)))
+
+-- a bit that is set already
+pub raise-set : (n k : ℕ) → bit n k ≡ 1 → raise n k ≡ n
+unfolding bit raise
+raise-set n zero h = omega arith
+raise-set n (suc k) h = rw (raise-set (n / 2) k h) (omega arith)
+
+-- every bit of the greatest number of m bits is set
+pub bit-greatest : (m k : ℕ) → k < m → bit (2 ^ m - 1) k ≡ 1
+unfolding bit
+bit-greatest zero k h = absurd (omega arith)
+bit-greatest (suc m) zero h = omega (arith, pow-suc 2 m, pow-pos m)
+bit-greatest (suc m) (suc k) h =
+    let e : (2 ^ suc m - 1) / 2 ≡ 2 ^ m - 1 = omega (arith, pow-suc 2 m, pow-pos m) in
+    rw e (bit-greatest m k (omega arith))
+
+-- `(n >> k) & 1`
+bit-shift : (n k : ℕ) → bit n k ≡ n / 2 ^ k % 2
+unfolding bit
+bit-shift n zero = let e : n / 1 ≡ n = omega arith in rw e
+bit-shift n (suc k) = bit-shift (n / 2) k ∙ ap (λ x. x % 2) (shr-shr n 1 k ∙ ap (λ j. n / 2 ^ j) (one-add k))
+
+pub and-shift : (n k : ℕ) → bitAnd (n / 2 ^ k) 1 ≡ bit n k
+and-shift n k = and-mask (n / 2 ^ k) 1 ∙ sym (bit-shift n k)
+
+-- `1u64 << k`
+pub shift-one : (k : ℕ) → k < 64 → (1 * 2 ^ k) % 18446744073709551616 ≡ 2 ^ k
+shift-one k h =
+    let b : 2 ^ k < 2 ^ 64 = pow-lt h in
+    ap (λ x. x % 18446744073709551616) (one-mul (2 ^ k)) ∙ mod-eq-of-lt b
+
+module _ (k : ℕ) where
+  half-pow : 2 ^ suc k / 2 ≡ 2 ^ k
+  half-pow = omega (arith, pow-suc 2 k)
+
+  lowest-pow : 2 ^ suc k % 2 ≡ 0
+  lowest-pow = omega (arith, pow-suc 2 k)
+
+-- `n | (1 << k)`
+pub or-pow : (n k : ℕ) → bitOr n (2 ^ k) ≡ raise n k
+unfolding raise
+or-pow n zero =
+    let m : max (n % 2) 1 ≡ 1 = omega arith in
+    or-step n 1 ∙ rw (or-zero-r (n / 2), m)
+or-pow n (suc k) =
+    let m : max (n % 2) 0 ≡ n % 2 = omega arith in
+    or-step n (2 ^ suc k) ∙ rw (half-pow k, lowest-pow k, or-pow (n / 2) k, m)
+
+differ-zero : (x : ℕ) → differ x 0 ≡ x
+differ-zero zero = refl
+differ-zero (suc x) = refl
+
+-- `n ^ (1 << k)` clears a bit that is set
+pub xor-pow : (n k : ℕ) → bit n k ≡ 1 → bitXor n (2 ^ k) ≡ clear n k
+unfolding clear bit
+xor-pow n zero h = xor-step n 1 ∙ rw (xor-zero-r (n / 2), h) (omega arith)
+xor-pow n (suc k) h = xor-step n (2 ^ suc k) ∙ rw (half-pow k, lowest-pow k, xor-pow (n / 2) k h, differ-zero (n % 2))
+
+-- `trailing_zeros` counts up to the lowest bit that is set
+pub below-trailing : (k n j : ℕ) → j < trailingZeros k n → bit n j ≡ 0
+unfolding bit trailingZeros
+below-trailing zero n j h = absurd (omega arith)
+below-trailing (suc k) n j h = go (n % 2) refl j h (below-trailing k (n / 2))
+  where
+    go : (d : ℕ) → n % 2 ≡ d → (i : ℕ) → i < under d (trailingZeros k (n / 2)) →
+        ((i : ℕ) → i < trailingZeros k (n / 2) → bit (n / 2) i ≡ 0) → bit n i ≡ 0
+    go zero e zero g higher = e
+    go zero e (suc i) g higher = higher i (omega arith)
+    go (suc d) e i g higher = absurd (omega arith)
+
+pub at-trailing : (k n : ℕ) → trailingZeros k n < k → bit n (trailingZeros k n) ≡ 1
+unfolding bit trailingZeros
+at-trailing zero n h = absurd (omega arith)
+at-trailing (suc k) n h = go (n % 2) refl h (at-trailing k (n / 2))
+  where
+    go : (d : ℕ) → n % 2 ≡ d → under d (trailingZeros k (n / 2)) < suc k →
+        (trailingZeros k (n / 2) < k → bit (n / 2) (trailingZeros k (n / 2)) ≡ 1) → bit n (under d (trailingZeros k (n / 2))) ≡ 1
+    go zero e g higher = higher (omega arith)
+    go (suc d) e g higher = omega arith

@@ -1,0 +1,3 @@
+mod Bits
+mod Free
+pub mod Laws

@@ -1,0 +1,4 @@
+pub mod Operands
+pub mod Value
+pub mod Instruction
+pub mod Function

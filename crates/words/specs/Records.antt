@@ -1,0 +1,61 @@
+-- Records of w words, one after the other: "Node, six words", "Instruction, four words", "Constant, three words"; a list word, a name and a
+-- mark are records of one.
+use Prim.Native.Nat.{ℕ, zero, suc, _+_, _*_, _/_}
+use mathlib.Core.List.{List, [], _∷_}
+use mathlib.Core.Bool.{Bool, true, false, cond, _&&_}
+use lib.Dec.{ltb, eqb}
+use lib.ListN.{length, take, drop}
+use lib.Seq.{sets}
+use Rattle.diagnostics.specs.declared.Refusal.{Refusal}
+use Rattle.diagnostics.specs.declared.Place.{Place}
+use Rattle.words.specs.declared.Appended.{Appended}
+
+-- "whole records": how many a buffer holds
+unfoldable pub capacity : ℕ → List ℕ → ℕ
+capacity w ws = length ws / w
+
+-- the words of record p
+unfoldable pub recordAt : ℕ → List ℕ → ℕ → List ℕ
+recordAt w ws p = take w (drop (w * p) ws)
+
+-- the buffer with record p made r
+unfoldable pub putRecord : ℕ → List ℕ → ℕ → List ℕ → List ℕ
+putRecord w ws p r = sets ws (w * p) r
+
+unfoldable pub sameWords : List ℕ → List ℕ → Bool
+sameWords [] [] = true
+sameWords [] (y ∷ ys) = false
+sameWords (x ∷ xs) [] = false
+sameWords (x ∷ xs) (y ∷ ys) = eqb x y && sameWords xs ys
+
+-- whether the buffer has a whole record p, and its words are r
+unfoldable pub isAt : List ℕ → List ℕ → ℕ → Bool
+isAt ws r p = ltb p (capacity (length r) ws) && sameWords (recordAt (length r) ws p) r
+
+-- the first of the n records from p on that is r, or p + n
+unfoldable pub positionFrom : List ℕ → List ℕ → ℕ → ℕ → ℕ
+positionFrom ws r zero p = p
+positionFrom ws r (suc n) p = cond (isAt ws r p) p (positionFrom ws r n (suc p))
+
+-- the place of the first of the first `count` records that is r, or `count`
+unfoldable pub position : List ℕ → List ℕ → ℕ → ℕ
+position ws r count = positionFrom ws r count 0
+
+-- the most records that a count of 32 bits can say
+abbrev pub maxCount : ℕ
+maxCount = 4294967295
+
+-- what an append leaves: the words of the buffer, and the answer
+pub record Buffer : Type 0 where
+  pub words : List ℕ
+  pub answer : Appended
+
+abbrev pub buffer : List ℕ → Appended → Buffer
+buffer ws a = record { words = ws; answer = a }
+
+-- a record put behind the first `count` ones, "with fewer than" `limit` "made" and "place for the next"; else the buffer as it was, and the refusal
+unfoldable pub append : List ℕ → ℕ → ℕ → List ℕ → Refusal → Buffer
+append ws count limit r refusal =
+    cond (ltb count limit && ltb count (capacity (length r) ws))
+    (buffer (putRecord (length r) ws count r) (record { count = count + 1; place = Place.At count }))
+    (buffer ws (record { count = count; place = Place.Refused refusal }))

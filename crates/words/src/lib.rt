@@ -1,0 +1,129 @@
+// Little-endian words in byte slices, and records of words.
+ghost use mathlib.Core.Path.{_≡_};
+ghost use Prim.Native.Nat.{_+_, _<_, _≤_};
+ghost use lib.ListN.{length, getD, set, take, drop};
+ghost use lib.Seq.{sets};
+ghost use Rattle.words.specs.Words.{words, tail};
+ghost use Rattle.words.specs.Records.{capacity, sameWords, position, append, buffer};
+use diagnostics::Place;
+use diagnostics::Refusal;
+
+// How many records a buffer holds after an append, and the place of the new one or why there is none.
+pub struct Appended {
+    pub count: u32,
+    pub place: Place,
+}
+
+// The most records that a count of 32 bits can say.
+pub const MAX_COUNT: u32 = 4294967295;
+
+fn wide(x: u8) -> u32
+    ensures { λ r. ⌜ (r ≡ x) × (r < 256) ⌝ }
+{
+    x as u32
+}
+
+// The word at i; 0 past the last whole word.
+pub fn word(s: &[u8], i: usize) -> u32
+    ensures { λ r. ⌜ r ≡ getD (words (now (s .entry))) i 0 ⌝ }
+{
+    if i < s.len() / 4 {
+        wide(s[4 * i])
+            + 256 * wide(s[4 * i + 1])
+            + 65536 * wide(s[4 * i + 2])
+            + 16777216 * wide(s[4 * i + 3])
+    } else {
+        0
+    }
+}
+
+// Makes the word at i x; past the last whole word nothing changes.
+pub fn put_word(s: &mut [u8], i: usize, x: u32)
+    ensures words { λ _. ⌜ words (now (s .exit)) ≡ set (words (now (s .entry))) i x ⌝ }
+    ensures tail { λ _. ⌜ tail (now (s .exit)) ≡ tail (now (s .entry)) ⌝ }
+{
+    if i < s.len() / 4 {
+        s[4 * i] = (x % 256) as u8;
+        s[4 * i + 1] = (x / 256 % 256) as u8;
+        s[4 * i + 2] = (x / 65536 % 256) as u8;
+        s[4 * i + 3] = (x / 16777216) as u8;
+    }
+}
+
+// Makes the words from `at` on those of `xs`, one after the other; past the last whole word nothing changes.
+pub fn put_words(s: &mut [u8], at: usize, xs: &[u32])
+    ensures words { λ _. ⌜ words (now (s .exit)) ≡ sets (words (now (s .entry))) at (now (xs .entry)) ⌝ }
+    ensures tail { λ _. ⌜ tail (now (s .exit)) ≡ tail (now (s .entry)) ⌝ }
+{
+    if at <= s.len() {
+        let mut k = 0;
+        while k < xs.len() {
+            put_word(s, at + k, xs[k]);
+            k += 1;
+        }
+    }
+}
+
+// The whole records of `width` words that a buffer holds.
+pub fn capacity(s: &[u8], width: usize) -> usize
+    ensures { λ r. ⌜ r ≡ capacity width (words (now (s .entry))) ⌝ }
+{
+    if width == 0 { 0 } else { s.len() / 4 / width }
+}
+
+// Puts a record behind the first `count` ones, where fewer than `limit` are made and the buffer has place for it.
+pub fn append(s: &mut [u8], count: u32, limit: u32, item: &[u32], refusal: Refusal) -> Appended
+    ensures words { λ r. ⌜ buffer (words (now (s .exit))) r ≡ append (words (now (s .entry))) count limit (now (item .entry)) refusal ⌝ }
+    ensures tail { λ r. ⌜ tail (now (s .exit)) ≡ tail (now (s .entry)) ⌝ }
+{
+    let width = item.len();
+    let at = count as usize;
+    if count < limit {
+        if at < capacity(s, width) {
+            put_words(s, width * at, item);
+            return Appended {
+                count: count + 1,
+                place: Place::At(count),
+            };
+        }
+    }
+    Appended {
+        count: count,
+        place: Place::Refused(refusal),
+    }
+}
+
+// Whether the words from `at` on are those of `item`.
+fn same_words(s: &[u8], at: usize, item: &[u32]) -> bool
+    requires { ⌜ at + length (now item) ≤ length (words (now s)) ⌝ }
+    ensures { λ r. ⌜ r ≡ sameWords (take (length (now (item .entry))) (drop at (words (now (s .entry))))) (now (item .entry)) ⌝ }
+{
+    let mut k = 0;
+    while k < item.len() {
+        if word(s, at + k) != item[k] {
+            return false;
+        }
+        k += 1;
+    }
+    true
+}
+
+// The place of the first of the first `count` records that is `item`, or `count`.
+pub fn position(s: &[u8], count: u32, item: &[u32]) -> u32
+    ensures { λ r. ⌜ r ≡ position (words (now (s .entry))) (now (item .entry)) count ⌝ }
+{
+    let width = item.len();
+    let records = capacity(s, width);
+    let mut p: u32 = 0;
+    while p < count {
+        let at = p as usize;
+        if records <= at {
+            return count;
+        }
+        if same_words(s, width * at, item) {
+            return p;
+        }
+        p += 1;
+    }
+    count
+}
