@@ -30,6 +30,14 @@ pub enum Place {
     Refused(Refusal),
 }
 
+// A refusal with the place and the span that it names, 0 where it names none.
+pub struct Error {
+    pub refusal: Refusal,
+    pub place: u32,
+    pub start: u32,
+    pub end: u32,
+}
+
 impl Refusal {
     pub fn number(self) -> u32
         ensures { λ r. ⌜ r ≡ numberOf self ⌝ }

@@ -1,2 +1,3 @@
-// The tree's side of kaori's syntax: operators, in the order of ops.rs.
+// The tree's side of kaori's syntax: nodes and operators.
+pub mod ast;
 pub mod ops;

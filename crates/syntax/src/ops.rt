@@ -21,6 +21,16 @@ pub enum UnaryOp {
     Deref,
 }
 
+// The six operators that compare.
+pub enum Comparison {
+    Equal,
+    NotEqual,
+    Greater,
+    GreaterEqual,
+    Less,
+    LessEqual,
+}
+
 impl BinaryOp {
     // The operator of a node's word; the last one past the order.
     pub fn from_word(word: u32) -> BinaryOp

@@ -1,0 +1,108 @@
+-- The whole of lowering, and patching: what comes back, and what is left in the buffers.
+use Prim.Native.Nat.{ℕ, zero, suc, _+_, _*_}
+use mathlib.Core.List.{List}
+use mathlib.Core.Bool.{Bool, cond, _&&_}
+use lib.Dec.{leb, ltb}
+use lib.ListN.{length, getD}
+use Rattle.diagnostics.specs.declared.Refusal.{Refusal}
+use Rattle.diagnostics.specs.declared.Error.{Error}
+use Rattle.diagnostics.specs.Refusal.{numberOf}
+use Rattle.words.specs.Words.{words}
+use Rattle.words.specs.Records.{capacity}
+use Rattle.environment.specs.Environment.{parameters}
+use Rattle.runtime.specs.declared.instruction.Instruction.{Instruction}
+use Rattle.runtime.specs.Operands.{regOf}
+use Rattle.runtime.specs.Instruction.{instructionWidth}
+use Rattle.lowering.specs.declared.Dest.{Dest}
+use Rattle.lowering.specs.Tree.{Tree}
+use Rattle.lowering.specs.Questions.{Verdict, passed, refused, questions}
+use Rattle.lowering.specs.Walk.{Made, made, Outcome, ends, stops, Walk, bind, _>>=_, _>>_, ret}
+use Rattle.lowering.specs.Steps.{emit, patchArguments, withOffset}
+use Rattle.lowering.specs.Lower.{lowerMaterializing, lowerExpression, lowerJumpIfFalse, lowerJumpIfTrue}
+
+-- "Result: number (0 accepted), place, span start, span end, instructions, constants, frame size, arity."
+pub record Result : Type 0 where
+  pub number : ℕ
+  pub place : ℕ
+  pub start : ℕ
+  pub end : ℕ
+  pub instructions : ℕ
+  pub constants : ℕ
+  pub frameSize : ℕ
+  pub arity : ℕ
+
+-- the eight numbers, and the words of the three buffers
+pub record Lowered : Type 0 where
+  pub result : Result
+  pub code : List ℕ
+  pub constants : List ℕ
+  pub marks : List ℕ
+
+-- nothing made yet but the parameters' registers; the pool may hold constants already
+unfoldable pub begin : List ℕ → List ℕ → List ℕ → ℕ → ℕ → Made
+begin code constants marks pooled arity = made code constants marks (record { registers = parameters arity; instructions = 0; constants = pooled; marks = 0 })
+
+-- "Modes: 0 value, 1 jump if false, 2 jump if true." The answer is the jump's place, in mode 0 none: 0. A mode past 2, which question 2
+-- refuses, reads as 2.
+unfoldable pub lowerRoot : Tree → ℕ → ℕ → Walk ℕ
+lowerRoot t zero root = do
+  src ← lowerMaterializing (lowerExpression t root) Dest.Any
+  emit (Instruction.Return (regOf src))
+  patchArguments
+  ret 0
+lowerRoot t (suc zero) root = do
+  jump ← lowerJumpIfFalse t root
+  patchArguments
+  ret jump
+lowerRoot t (suc (suc mode)) root = do
+  jump ← lowerJumpIfTrue t root
+  patchArguments
+  ret jump
+
+abbrev pub result : ℕ → ℕ → ℕ → ℕ → ℕ → ℕ → ℕ → ℕ → Result
+result number place start end instructions constants frameSize arity =
+    record {
+      number = number;
+      place = place;
+      start = start;
+      end = end;
+      instructions = instructions;
+      constants = constants;
+      frameSize = frameSize;
+      arity = arity;
+    }
+
+abbrev pub leaves : Result → Made → Lowered
+leaves r m = record { result = r; code = m .code; constants = m .constants; marks = m .marks }
+
+-- "In modes 1 and 2 an accepted place is the jump's; otherwise 0." "On refusal the last two are 0."
+unfoldable pub answered : ℕ → Outcome ℕ → Lowered
+answered arity (ends place m) = leaves (result 0 place 0 0 (m .state .instructions) (m .state .constants) (m .state .registers .«frame_size») arity) m
+answered arity (stops e m) = leaves (result (numberOf (e .refusal)) (e .place) (e .start) (e .end) (m .state .instructions) (m .state .constants) 0 0) m
+
+-- "Before the walk [..]; counts are 0": nothing is written
+unfoldable pub lowerChecked : Verdict → Tree → ℕ → ℕ → Made → Lowered
+lowerChecked passed t mode root m = answered (length (t .names)) (lowerRoot t mode root m)
+lowerChecked (refused refusal place) t mode root m = leaves (result (numberOf refusal) place 0 0 0 0 0 0) m
+
+-- Lowering, by the bytes of the tree and the words of the buffers.
+unfoldable pub lower : List ℕ → ℕ → ℕ → List ℕ → List ℕ → List ℕ → List ℕ → List ℕ → Lowered
+lower nodes root mode list names code constants marks =
+    let t : Tree = record { nodes = words nodes; list = words list; names = words names } in
+    lowerChecked (questions nodes list names mode root) t mode root (begin code constants marks 0 (length (t .names)))
+
+-- "Patching answers 0 or 19 alone. 19: Is the index below the count, the count within the buffer, the kind 41 to 53? Only the offset word changes."
+unfoldable pub canPatch : List ℕ → ℕ → ℕ → Bool
+canPatch code count index =
+    ltb index count && leb count (capacity instructionWidth code)
+    && leb 41 (getD code (instructionWidth * index) 0) && leb (getD code (instructionWidth * index) 0) 53
+
+pub record Patched : Type 0 where
+  pub number : ℕ
+  pub code : List ℕ
+
+unfoldable pub patch : List ℕ → ℕ → ℕ → ℕ → Patched
+patch code count index offset =
+    cond (canPatch code count index)
+    (record { number = 0; code = withOffset code index offset })
+    (record { number = numberOf Refusal.Jump; code = code })
