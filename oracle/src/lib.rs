@@ -1,0 +1,14 @@
+//! The Rust half of the comparison: kaori's own lowering beside a model of document 01.
+
+mod bounded;
+pub mod cases;
+pub mod compare;
+pub mod expression;
+pub mod generate;
+pub mod model;
+mod plain;
+pub mod record;
+pub mod reference;
+pub mod shrink;
+pub mod text;
+pub mod tree;
