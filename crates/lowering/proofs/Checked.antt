@@ -18,7 +18,7 @@ use Rattle.words.specs.Records.{capacity}
 use Rattle.words.proofs.Words.{length-words}
 use Rattle.syntax.specs.declared.ast.Node.{Node}
 use Rattle.syntax.specs.Ast.{nodeWidth, nodeWord, nodeAt, nodeKinds, absent}
-use Rattle.lowering.specs.Tree.{Tree, node, present, entryNodes, children}
+use Rattle.lowering.specs.Tree.{treeOf, Tree, node, present, entryNodes, children}
 use Rattle.lowering.specs.Questions.{whole, question1, question2, question3, question4, question5, question6, question7, question8, allBelow, Verdict, passed, refused, ask, askNode, askNodes, questions}
 
 -- questions 3 to 6, asked of node i
@@ -348,10 +348,6 @@ pub data NodeNo (t : Tree) (i : ℕ) : Refusal → Type 0 where
   no-number : asked3 t i ≡ true → asked4 t i ≡ true → asked5 t i ≡ false → NodeNo t i Refusal.Number
   no-list : asked3 t i ≡ true → asked4 t i ≡ true → asked5 t i ≡ true → asked6 t i ≡ false → NodeNo t i Refusal.List
   no-order : asked3 t i ≡ true → asked4 t i ≡ true → asked5 t i ≡ true → asked6 t i ≡ true → question7 t i ≡ false → NodeNo t i Refusal.Order
-
--- the tree of three slices of bytes, and its number of nodes
-abbrev pub treeOf : List ℕ → List ℕ → List ℕ → Tree
-treeOf nodes list names = record { nodes = words nodes; list = words list; names = words names }
 
 abbrev pub nodesIn : List ℕ → ℕ
 nodesIn nodes = capacity nodeWidth (words nodes)

@@ -1,3 +1,16 @@
 pub mod Cases
 pub mod Checked
 pub mod Bound
+pub mod Decode
+pub mod Steps
+pub mod Runs
+pub mod Post
+pub mod Nodes
+pub mod Jumps
+pub mod Walks
+pub mod Law
+pub mod Asked
+pub mod Whole
+pub mod AtNode
+pub mod Ieee
+pub mod Instance

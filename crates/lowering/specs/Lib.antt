@@ -5,3 +5,6 @@ pub mod Steps
 pub mod Operators
 pub mod Lower
 pub mod Result
+pub mod Meaning
+pub mod Machine
+pub mod Law

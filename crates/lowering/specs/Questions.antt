@@ -9,7 +9,7 @@ use Rattle.diagnostics.specs.declared.Refusal.{Refusal}
 use Rattle.words.specs.Words.{words}
 use Rattle.words.specs.Records.{capacity}
 use Rattle.syntax.specs.Ast.{nodeWidth, nodeWord}
-use Rattle.lowering.specs.Tree.{Tree, node, children}
+use Rattle.lowering.specs.Tree.{Tree, treeOf, node, children}
 
 -- whether bytes are whole records of w words
 unfoldable pub whole : ℕ → List ℕ → Bool
@@ -109,7 +109,7 @@ askNodes t (suc n) i next = askNode t i (askNodes t n (suc i) next)
 unfoldable pub questions : List ℕ → List ℕ → List ℕ → ℕ → ℕ → Verdict
 questions nodes list names mode root =
     let count : ℕ = capacity nodeWidth (words nodes) in
-    let t : Tree = record { nodes = words nodes; list = words list; names = words names } in
+    let t : Tree = treeOf nodes list names in
     ask (question1 nodes list names) Refusal.Size 0
     (ask (question2 mode root count) Refusal.Root 0
     (askNodes t count 0

@@ -14,7 +14,7 @@ use Rattle.runtime.specs.declared.instruction.Instruction.{Instruction}
 use Rattle.runtime.specs.Operands.{regOf}
 use Rattle.runtime.specs.Instruction.{instructionWidth}
 use Rattle.lowering.specs.declared.Dest.{Dest}
-use Rattle.lowering.specs.Tree.{Tree}
+use Rattle.lowering.specs.Tree.{Tree, treeOf}
 use Rattle.lowering.specs.Questions.{Verdict, passed, refused, questions}
 use Rattle.lowering.specs.Walk.{Made, made, Outcome, ends, stops, Walk, bind, _>>=_, _>>_, ret}
 use Rattle.lowering.specs.Steps.{emit, patchArguments, withOffset}
@@ -88,7 +88,7 @@ lowerChecked (refused refusal place) t mode root m = leaves (result (numberOf re
 -- Lowering, by the bytes of the tree and the words of the buffers.
 unfoldable pub lower : List ℕ → ℕ → ℕ → List ℕ → List ℕ → List ℕ → List ℕ → List ℕ → Lowered
 lower nodes root mode list names code constants marks =
-    let t : Tree = record { nodes = words nodes; list = words list; names = words names } in
+    let t : Tree = treeOf nodes list names in
     lowerChecked (questions nodes list names mode root) t mode root (begin code constants marks 0 (length (t .names)))
 
 -- "Patching answers 0 or 19 alone. 19: Is the index below the count, the count within the buffer, the kind 41 to 53? Only the offset word changes."

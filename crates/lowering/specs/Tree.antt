@@ -4,6 +4,7 @@ use mathlib.Core.List.{List, [], _∷_, _++_}
 use mathlib.Core.Bool.{cond}
 use lib.Dec.{eqb}
 use lib.ListN.{take, drop}
+use Rattle.words.specs.Words.{words}
 use Rattle.syntax.specs.declared.ast.Node.{Node}
 use Rattle.syntax.specs.Ast.{nodeAt, nodeWord, absent}
 
@@ -11,6 +12,10 @@ pub record Tree : Type 0 where
   pub nodes : List ℕ
   pub list : List ℕ
   pub names : List ℕ
+
+-- the tree of three slices, by their bytes
+abbrev pub treeOf : List ℕ → List ℕ → List ℕ → Tree
+treeOf nodes list names = record { nodes = words nodes; list = words list; names = words names }
 
 abbrev pub node : Tree → ℕ → Node
 node t i = nodeAt (t .nodes) i

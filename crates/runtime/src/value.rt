@@ -11,7 +11,7 @@ pub const CONSTANT_WORDS: usize = 3;
 const NAN_BITS: u64 = 0x7ff8_0000_0000_0000;
 
 // Whether bits are a NaN's: without the sign, above those of an infinity.
-fn is_nan(bits: u64) -> bool
+pub fn is_nan(bits: u64) -> bool
     ensures { λ r. ⌜ r ≡ nanBits binary64 bits ⌝ }
 {
     0x7ff0_0000_0000_0000 < bits % 0x8000_0000_0000_0000

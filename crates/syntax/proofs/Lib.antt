@@ -1,1 +1,1 @@
-mod Tables
+pub mod Tables

@@ -1,0 +1,2 @@
+mod Patches
+pub mod Marks

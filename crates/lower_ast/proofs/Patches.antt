@@ -1,0 +1,74 @@
+-- The laws of patching: where a jump has its offset, and every byte of a buffer from its words and its tail; what one argument and a run of
+-- marked arguments give, in the terms of the code. Assumes nothing.
+use mathlib.Core.Path.{_≡_, sym}
+use mathlib.Core.List.{List, _++_}
+use mathlib.Core.Bool.{Bool, true, false, cond}
+use Prim.Native.Nat.{ℕ, suc, _+_, _*_, _-_, _≤_, _<_}
+use native.Mathlib.Omega.{arith}
+use native.Mathlib.Numerals.{add-one}
+use lib.Dec.{ltb}
+use lib.ListN.{getD, set}
+use borrow.Author.Tests.{le-leb, lt-leb}
+use Rattle.diagnostics.specs.declared.Refusal.{Refusal}
+use Rattle.diagnostics.specs.declared.Error.{Error}
+use Rattle.words.specs.Words.{words, tail, bytesOf}
+use Rattle.words.proofs.Words.{bytes-words}
+use Rattle.runtime.specs.Instruction.{hasDestination, offsetWord}
+use Rattle.lowering.specs.declared.State.{State}
+use Rattle.lowering.specs.Walk.{Made, made, ends, stops, error, bind}
+use Rattle.lowering.specs.Steps.{patchArgument, patchMarks}
+
+cond-below : (b : Bool) (x y n : ℕ) → x < n → y < n → cond b x y < n
+cond-below true x y n h g = h
+cond-below false x y n h g = g
+
+-- the offset is one of a record's four words
+pub offset-word-below : (kind : ℕ) → offsetWord kind < 4
+unfolding offsetWord
+offset-word-below kind =
+    cond-below (ltb kind 41) 0 _ 4 (omega arith)
+    (cond-below (ltb kind 42) 1 _ 4 (omega arith)
+    (cond-below (ltb kind 44) 2 _ 4 (omega arith)
+    (cond-below (ltb kind 54) 3 0 4 (omega arith) (omega arith))))
+
+-- words and tail are every byte
+pub bytes-are : (entry exit ws : List ℕ) → words exit ≡ ws → tail exit ≡ tail entry → ((i : ℕ) → getD exit i 0 < 256) → exit ≡ bytesOf ws ++ tail entry
+bytes-are entry exit ws w t h = rw (← w, ← t) (sym (bytes-words exit h))
+
+-- one argument, by its instruction's kind and destination
+module _ (code constants marks : List ℕ) (s : State) (place frame kind : ℕ)
+    (f : s .registers .«frame_size» ≡ frame) (k : kind ≡ getD code (4 * place) 0) where
+  pub argument-none : hasDestination kind ≡ false
+      → patchArgument place (made code constants marks s) ≡ stops (error Refusal.Destination place 0 0) (made code constants marks s)
+  unfolding patchArgument
+  argument-none none = rw (← k, none)
+
+  module _ (dest : ℕ) (yes : hasDestination kind ≡ true) (d : dest ≡ getD code (4 * place + 1) 0) where
+    pub argument-done : dest + frame ≤ 255
+        → patchArgument place (made code constants marks s) ≡ ends tt (made (set code (4 * place + 1) (dest + frame)) constants marks s)
+    unfolding patchArgument
+    argument-done h = rw (← k, yes, ← d, f, le-leb _ _ h)
+
+    pub argument-over : 255 < dest + frame
+        → patchArgument place (made code constants marks s) ≡ stops (error Refusal.Sum place 0 0) (made code constants marks s)
+    unfolding patchArgument
+    argument-over h = rw (← k, yes, ← d, f, lt-leb _ _ h)
+
+-- the marks from mark i on: none left, one patched, one refused
+module _ (count i : ℕ) (m : Made) where
+  pub marks-none : count ≤ i → patchMarks (count - i) i m ≡ ends tt m
+  unfolding patchMarks
+  marks-none h = let n : count - i ≡ 0 = omega arith in rw n
+
+  module _ (h : i < count) where
+    left : count - i ≡ suc (count - (i + 1))
+    left = omega arith
+
+    pub marks-done : (after : Made) → patchArgument (getD (m .marks) i 0) m ≡ ends tt after
+        → patchMarks (count - i) i m ≡ patchMarks (count - (i + 1)) (i + 1) after
+    unfolding patchMarks bind
+    marks-done after e = rw (left, e, add-one)
+
+    pub marks-refused : (e : Error) (after : Made) → patchArgument (getD (m .marks) i 0) m ≡ stops e after → patchMarks (count - i) i m ≡ stops e after
+    unfolding patchMarks bind
+    marks-refused e after p = rw (left, p)

@@ -1,0 +1,136 @@
+// The parts of the lowering (kaori's codegen/lower_ast.rs) that are not the walk itself: jumps and arguments, patched in the code, and marks.
+ghost use mathlib.Core.Path.{_≡_};
+ghost use mathlib.Core.List.{List, _++_};
+ghost use Prim.Native.Nat.{ℕ};
+ghost use Rattle.words.specs.Words.{words, tail, bytesOf};
+ghost use Rattle.words.specs.Records.{buffer};
+ghost use Rattle.lowering.specs.declared.State.{State};
+ghost use Rattle.lowering.specs.Walk.{made};
+ghost use Rattle.lowering.specs.Steps.{withOffset, patchArgument, patchMarks};
+ghost use Rattle.lowering.specs.Result.{canPatch, patch};
+ghost use Rattle.lower_ast.specs.Arguments.{markArgument, seenDone};
+use diagnostics::Place;
+use diagnostics::Refusal;
+use runtime::instruction::INSTRUCTION_WORDS;
+use runtime::instruction::has_destination;
+use runtime::instruction::offset_word;
+use words::Appended;
+use words::MAX_COUNT;
+use words::append;
+use words::capacity;
+use words::put_word;
+use words::word;
+
+// Every argument patched, or the first that is refused, with the place of its instruction.
+pub enum Patched {
+    Done,
+    Refused { refusal: Refusal, place: u32 },
+}
+
+// Makes the offset of the jump at `place` what is given.
+pub fn put_offset(code: &mut [u8], place: u32, offset: u32)
+    ensures words { λ _. ⌜ words (now (code .exit)) ≡ withOffset (words (now (code .entry))) place offset ⌝ }
+    ensures tail { λ _. ⌜ tail (now (code .exit)) ≡ tail (now (code .entry)) ⌝ }
+{
+    let at = INSTRUCTION_WORDS * (place as usize);
+    let kind = word(code, at);
+    let field = offset_word(kind);
+    put_word(code, at + field, offset);
+}
+
+// Whether instruction `index` is one of the first `count`, all in the buffer, and a jump.
+fn can_patch(code: &[u8], count: u32, index: u32) -> bool
+    ensures { λ r. ⌜ r ≡ canPatch (words (now (code .entry))) count index ⌝ }
+{
+    if index < count {
+        if (count as usize) <= capacity(code, INSTRUCTION_WORDS) {
+            let kind = word(code, INSTRUCTION_WORDS * (index as usize));
+            if 41 <= kind { kind <= 53 } else { false }
+        } else {
+            false
+        }
+    } else {
+        false
+    }
+}
+
+// Patching: 0, or 19 and nothing changes. Of the bytes only those of the offset change.
+pub fn patch_jump(code: &mut [u8], count: u32, index: u32, offset: u32) -> u32
+    ensures number { λ r. ⌜ r ≡ patch (words (now (code .entry))) count index offset .number ⌝ }
+    ensures bytes { λ r. ⌜ now (code .exit) ≡ bytesOf (patch (words (now (code .entry))) count index offset .code) ++ tail (now (code .entry)) ⌝ }
+{
+    if can_patch(code, count, index) {
+        put_offset(code, index, offset);
+        0
+    } else {
+        let refusal = Refusal::Jump;
+        refusal.number()
+    }
+}
+
+// Marks the last of `instructions`, behind the first `count` marks.
+pub fn mark_argument(marks: &mut [u8], count: u32, instructions: u32) -> Appended
+    ensures words { λ r. ⌜ buffer (words (now (marks .exit))) r ≡ markArgument (words (now (marks .entry))) count instructions ⌝ }
+    ensures tail { λ r. ⌜ tail (now (marks .exit)) ≡ tail (now (marks .entry)) ⌝ }
+{
+    if instructions == 0 {
+        Appended {
+            count,
+            place: Place::Refused(Refusal::Unmarked),
+        }
+    } else {
+        let item = [instructions - 1];
+        append(marks, count, MAX_COUNT, &item, Refusal::Marks)
+    }
+}
+
+// Adds the frame size to the destination of the instruction at `place`.
+pub fn patch_argument(code: &mut [u8], place: u32, frame_size: u32) -> Patched
+    ensures words { λ r. ⌜ ((constants marks : List ℕ) (s : State) → s .registers .«frame_size» ≡ «frame_size»
+        → patchArgument place (made (words (now (code .entry))) constants marks s) ≡ seenDone r (made (words (now (code .exit))) constants marks s)) ⌝ }
+    ensures tail { λ r. ⌜ tail (now (code .exit)) ≡ tail (now (code .entry)) ⌝ }
+{
+    let at = INSTRUCTION_WORDS * (place as usize);
+    let kind = word(code, at);
+    if has_destination(kind) {
+        let dest = word(code, at + 1);
+        let sum = (dest as u64) + (frame_size as u64);
+        if sum <= 255 {
+            put_word(code, at + 1, sum as u32);
+            Patched::Done
+        } else {
+            Patched::Refused {
+                refusal: Refusal::Sum,
+                place,
+            }
+        }
+    } else {
+        Patched::Refused {
+            refusal: Refusal::Destination,
+            place,
+        }
+    }
+}
+
+// The same for each of the first `count` marks, in order, up to the first that is refused.
+pub fn patch_arguments(code: &mut [u8], marks: &[u8], count: u32, frame_size: u32) -> Patched
+    ensures words { λ r. ⌜ ((constants : List ℕ) (s : State) → s .registers .«frame_size» ≡ «frame_size»
+        → patchMarks count 0 (made (words (now (code .entry))) constants (words (now (marks .entry))) s)
+        ≡ seenDone r (made (words (now (code .exit))) constants (words (now (marks .entry))) s)) ⌝ }
+    ensures tail { λ r. ⌜ tail (now (code .exit)) ≡ tail (now (code .entry)) ⌝ }
+{
+    let mut i: u32 = 0;
+    while i < count {
+        let place = word(marks, i as usize);
+        let patched = patch_argument(code, place, frame_size);
+        match patched {
+            Patched::Done => {
+                i += 1;
+            }
+            Patched::Refused { refusal, place } => {
+                return Patched::Refused { refusal, place };
+            }
+        }
+    }
+    Patched::Done
+}

@@ -1,0 +1,2 @@
+// The walk and the public operations.
+pub mod check;
