@@ -1,2 +1,3 @@
 mod Patches
 pub mod Marks
+pub mod Laws

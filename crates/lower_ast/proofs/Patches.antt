@@ -1,35 +1,21 @@
--- The laws of patching: where a jump has its offset, and every byte of a buffer from its words and its tail; what one argument and a run of
--- marked arguments give, in the terms of the code. Assumes nothing.
+-- The laws of patching: every byte of a buffer from its words and its tail; what one argument and a run of marked arguments give, in the terms of the
+-- code. Assumes nothing.
 use mathlib.Core.Path.{_≡_, sym}
 use mathlib.Core.List.{List, _++_}
-use mathlib.Core.Bool.{Bool, true, false, cond}
+use mathlib.Core.Bool.{true, false}
 use Prim.Native.Nat.{ℕ, suc, _+_, _*_, _-_, _≤_, _<_}
 use native.Mathlib.Omega.{arith}
 use native.Mathlib.Numerals.{add-one}
-use lib.Dec.{ltb}
 use lib.ListN.{getD, set}
 use borrow.Author.Tests.{le-leb, lt-leb}
 use Rattle.diagnostics.specs.declared.Refusal.{Refusal}
 use Rattle.diagnostics.specs.declared.Error.{Error}
 use Rattle.words.specs.Words.{words, tail, bytesOf}
 use Rattle.words.proofs.Words.{bytes-words}
-use Rattle.runtime.specs.Instruction.{hasDestination, offsetWord}
+use Rattle.runtime.specs.Instruction.{hasDestination}
 use Rattle.lowering.specs.declared.State.{State}
 use Rattle.lowering.specs.Walk.{Made, made, ends, stops, error, bind}
 use Rattle.lowering.specs.Steps.{patchArgument, patchMarks}
-
-cond-below : (b : Bool) (x y n : ℕ) → x < n → y < n → cond b x y < n
-cond-below true x y n h g = h
-cond-below false x y n h g = g
-
--- the offset is one of a record's four words
-pub offset-word-below : (kind : ℕ) → offsetWord kind < 4
-unfolding offsetWord
-offset-word-below kind =
-    cond-below (ltb kind 41) 0 _ 4 (omega arith)
-    (cond-below (ltb kind 42) 1 _ 4 (omega arith)
-    (cond-below (ltb kind 44) 2 _ 4 (omega arith)
-    (cond-below (ltb kind 54) 3 0 4 (omega arith) (omega arith))))
 
 -- words and tail are every byte
 pub bytes-are : (entry exit ws : List ℕ) → words exit ≡ ws → tail exit ≡ tail entry → ((i : ℕ) → getD exit i 0 < 256) → exit ≡ bytesOf ws ++ tail entry

@@ -8,3 +8,4 @@ pub mod Result
 pub mod Meaning
 pub mod Machine
 pub mod Law
+pub mod Reach

@@ -2,7 +2,7 @@
 use native.Mathlib.Omega.{arith}
 use borrow.Author.Needs.{needs}
 use Rattle.lowering.specs.Steps.{withOffset}
-use Rattle.lower_ast.proofs.Patches.{offset-word-below}
+use Rattle.lowering.proofs.Decode.{offset-small}
 use Rattle.lower_ast.proofs.put_offset.Statement.{statement}
 use Rattle.lower_ast.proofs.put_offset.Tie as tie
 
@@ -16,7 +16,7 @@ offset-word-requires : tie.Need-offset-word-requires
 offset-word-requires c κs = search needs
 
 add-put-word : tie.Need-add-put-word
-add-put-word c = omega (arith, c .before .offset-word .ensures, offset-word-below (c .before .before .word .result))
+add-put-word c = omega (arith, c .before .offset-word .ensures, offset-small (c .before .before .word .result))
 
 put-word-requires : tie.Need-put-word-requires
 put-word-requires c κs = search needs
