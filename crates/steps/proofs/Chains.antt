@@ -54,13 +54,22 @@ unfolding registered seen operandOf heldBy registerAnswer
 registered-seen (Found.At r) m = refl
 registered-seen (Found.Refused refusal) m = refl
 
--- a last instruction, and then its destination
+-- a last instruction, and then its destination: as a register, and as an operand
 module _ {A : Type 0} (gives : Answer → A) (m : Made) (a : Answer) (d : Register) where
   pub register-after : {o : Outcome A} → o ≡ seen gives m a → bind o (λ x. ret d) ≡ seen registerOf m (inRegister a d)
   unfolding bind seen inRegister refused operandOf heldBy
   register-after e = rw e (go a)
     where
       go : (b : Answer) → bind (seen gives m b) (λ x. ret d) ≡ seen registerOf m (inRegister b d)
+      go (Answer.Operand x) = refl
+      go (Answer.Place p) = refl
+      go (Answer.Refused f) = refl
+
+  pub operand-after : {o : Outcome A} → o ≡ seen gives m a → bind o (λ x. ret (Operand.Register d)) ≡ seen operandOf m (inRegister a d)
+  unfolding bind seen inRegister refused operandOf
+  operand-after e = rw e (go a)
+    where
+      go : (b : Answer) → bind (seen gives m b) (λ x. ret (Operand.Register d)) ≡ seen operandOf m (inRegister b d)
       go (Answer.Operand x) = refl
       go (Answer.Place p) = refl
       go (Answer.Refused f) = refl

@@ -6,7 +6,9 @@ use Rattle.diagnostics.specs.declared.Place.{Place}
 use Rattle.environment.specs.declared.Register.{Register}
 use Rattle.environment.specs.declared.Found.{Found}
 use Rattle.runtime.specs.declared.operand.Operand.{Operand}
-use Rattle.lowering.specs.Walk.{Made, Outcome, ends, stops, unnamed}
+use Rattle.runtime.specs.declared.instruction.Instruction.{Instruction}
+use Rattle.lowering.specs.Walk.{Made, Outcome, ends, stops, Walk, bind, _>>=_, _>>_, ret, unnamed}
+use Rattle.lowering.specs.Steps.{emit, freeTemp}
 use Rattle.steps.specs.declared.answer.Answer.{Answer}
 
 unfoldable pub refused : Answer → Bool
@@ -53,3 +55,10 @@ registerAnswer (Found.Refused refusal) = Answer.Refused (unnamed refusal)
 -- the destination, once what fills it is written
 unfoldable pub inRegister : Answer → Register → Answer
 inRegister a d = cond (refused a) a (Answer.Operand (Operand.Register d))
+
+-- the end of an arm whose instruction has one operand in a register
+abbrev pub finish : Instruction → Register → Register → Walk Operand
+finish instruction d src = do
+  emit instruction
+  freeTemp src
+  ret (Operand.Register d)

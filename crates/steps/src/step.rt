@@ -7,7 +7,7 @@ ghost use Rattle.words.specs.Words.{words, tail};
 ghost use Rattle.lowering.specs.Walk.{made, ends};
 ghost use Rattle.lowering.specs.Steps.{freeTemp, destination, emit, store, loadConstant};
 ghost use Rattle.lowering.specs.Lower.{source, materialized};
-ghost use Rattle.steps.specs.Answers.{seen, operandOf, placeOf, registerOf};
+ghost use Rattle.steps.specs.Answers.{seen, operandOf, placeOf, registerOf, finish};
 use crate::answer::Answer;
 use crate::answer::Lowered;
 use crate::answer::in_register;
@@ -143,5 +143,30 @@ pub fn materialized(
         Operand::String(_) => load_constant(code, constants, state, operand, dest),
         Operand::Boolean(_) => load_constant(code, constants, state, operand, dest),
         Operand::Nil => load_constant(code, constants, state, operand, dest),
+    }
+}
+
+// One instruction, and then its operand's register given back.
+pub fn finish(
+    code: &mut [u8],
+    state: State,
+    instruction: Instruction,
+    d: Register,
+    src: Register,
+) -> Lowered
+    ensures step { λ r. ⌜ ((p m : List ℕ) → finish instruction d src (made (words (now (code .entry))) p m state)
+        ≡ seen operandOf (made (words (now (code .exit))) p m (r .state)) (r .answer)) ⌝ }
+    ensures tail { λ r. ⌜ tail (now (code .exit)) ≡ tail (now (code .entry)) ⌝ }
+{
+    let r = emit(code, state, instruction);
+    let a = r.answer;
+    if is_refused(a) {
+        return r;
+    }
+    let s = r.state;
+    let freed = free_temp(s, src);
+    Lowered {
+        state: freed,
+        answer: Answer::Operand(Operand::Register(d)),
     }
 }
