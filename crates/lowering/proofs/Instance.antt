@@ -33,7 +33,7 @@ use Rattle.lowering.specs.Meaning.{Answer, val, fail, Unary, negate, der
 use Rattle.lowering.specs.Machine.{recordIn, fetch, constantAt, constantOf, target, action, returned, lost, Registers, Now, ended, fill, act, stepAt, step, after}
 use Rattle.lowering.specs.Law.{Start}
 use Rattle.lowering.proofs.Ieee.{add-order, mul-order, eq-order, order, nan-order}
-use Rattle.lowering.proofs.Whole.{running-law}
+use Rattle.lowering.proofs.Accepted.{running-law}
 
 -- ---- the operators
 

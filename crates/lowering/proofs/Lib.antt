@@ -10,7 +10,7 @@ pub mod Jumps
 pub mod Walks
 pub mod Law
 pub mod Asked
-pub mod Whole
+pub mod Accepted
 pub mod AtNode
 pub mod Ieee
 pub mod Instance
