@@ -4,7 +4,7 @@ use crate::{
     cases,
     expression::show,
     generate::{self, Alphabet, CHAINS, Profile, Random},
-    model,
+    model, port,
     reference::{reference, reference_answer, reference_patch},
     shrink::shrink,
     text,
@@ -15,16 +15,20 @@ use std::{
     time::{Duration, Instant},
 };
 
-/// What is compared with kaori: today the model, later the port.
+/// What is compared with kaori: the port and the model.
 pub struct Subject {
     pub name: &'static str,
     pub lower: Box<dyn Fn(&Input) -> Answer>,
     /// Code, count, index, offset: 0 and the code changed, or 19.
-    pub patch: Box<dyn Fn(&mut [u8], u64, u64, u32) -> u32>,
+    pub patch: Box<dyn Fn(&mut [u8], u32, u32, u32) -> u32>,
 }
 
 pub fn model_subject() -> Subject {
     Subject { name: "model", lower: Box::new(model::lower), patch: Box::new(model::patch) }
+}
+
+pub fn port_subject() -> Subject {
+    Subject { name: "port", lower: Box::new(port::lower), patch: Box::new(port::patch) }
 }
 
 impl Subject {
@@ -55,7 +59,7 @@ const MOST_DIFFERENCES: u64 = 5;
 const MOST_LINES: usize = 40;
 
 pub struct Comparison {
-    subject: Subject,
+    subjects: Vec<Subject>,
     pub random: Random,
     /// Calls compared, by kaori's number; those that kaori has no answer to stand under 1 to 8.
     pub numbers: [u64; 19],
@@ -78,10 +82,10 @@ struct Difference {
 }
 
 impl Comparison {
-    pub fn new(subject: Subject, seed: u64) -> Comparison {
+    pub fn new(subjects: Vec<Subject>, seed: u64) -> Comparison {
         let now = Instant::now();
         Comparison {
-            subject,
+            subjects,
             random: Random::new(seed),
             numbers: [0; 19],
             plain: 0,
@@ -150,15 +154,19 @@ impl Comparison {
             return self.call(&tree.input(Room::records(SHORT_CODE, MOST_NODES, SHORT_CODE)));
         }
         self.show_progress();
-        let (number, difference) = tree_difference(&self.subject, tree);
-        self.numbers[number as usize] += 1;
+        let wanted = wanted_of_tree(tree);
+        self.numbers[wanted.number() as usize] += 1;
         self.plain += 1;
-        if difference.is_some() {
-            let smallest = shrink(tree, &|tree| {
-                tree.walk_size() <= MOST_WALKED && tree_difference(&self.subject, tree).1.is_some()
-            });
-            let (_, difference) = tree_difference(&self.subject, &smallest);
-            self.report(Some(&smallest), "", difference.unwrap());
+        for subject in 0..self.subjects.len() {
+            let with = &self.subjects[subject];
+            if wanted.difference(with).is_none() {
+                continue;
+            }
+            let differs =
+                |tree: &Tree| tree.walk_size() <= MOST_WALKED && wanted_of_tree(tree).difference(with).is_some();
+            let smallest = shrink(tree, &differs);
+            let difference = wanted_of_tree(&smallest).difference(with).expect("it differed before");
+            self.report(subject, Some(&smallest), "", difference);
         }
     }
 
@@ -168,26 +176,34 @@ impl Comparison {
             return;
         }
         self.show_progress();
-        let (number, difference) = call_difference(&self.subject, input);
+        let wanted = wanted_of_call(input);
+        let number = wanted.number();
         self.numbers[number as usize] += 1;
         *(if (1..=8).contains(&number) { &mut self.refused_before } else { &mut self.bounded }) += 1;
-        let Some(difference) = difference else { return };
-        let rooms = format!("buffers of {}, {}, {} bytes", input.code.len(), input.constants.len(), input.marks.len());
-        let Some(tree) = Tree::of(input).filter(Tree::is_checked) else {
-            return self.report(Tree::of(input).as_ref(), &rooms, difference);
-        };
-        let with = |tree: &Tree| Input {
-            code: input.code.clone(),
-            constants: input.constants.clone(),
-            marks: input.marks.clone(),
-            ..tree.input(Room::records(0, 0, 0))
-        };
-        let smallest = shrink(&tree, &|tree| call_difference(&self.subject, &with(tree)).1.is_some());
-        let (_, difference) = call_difference(&self.subject, &with(&smallest));
-        self.report(Some(&smallest), &rooms, difference.unwrap());
+        for subject in 0..self.subjects.len() {
+            self.call_by(subject, &wanted);
+        }
     }
 
-    fn report(&mut self, tree: Option<&Tree>, rooms: &str, difference: Difference) {
+    fn call_by(&mut self, subject: usize, wanted: &Wanted) {
+        let with = &self.subjects[subject];
+        let Some(difference) = wanted.difference(with) else { return };
+        let input = &wanted.input;
+        let rooms = format!("buffers of {}, {}, {} bytes", input.code.len(), input.constants.len(), input.marks.len());
+        let Some(tree) = Tree::of(input).filter(Tree::is_checked) else {
+            return self.report(subject, Tree::of(input).as_ref(), &rooms, difference);
+        };
+        let call = |tree: &Tree| {
+            let buffers = [&input.code, &input.constants, &input.marks].map(|buffer| buffer.clone());
+            let [code, constants, marks] = buffers;
+            wanted_of_call(&Input { code, constants, marks, ..tree.input(Room::records(0, 0, 0)) })
+        };
+        let smallest = shrink(&tree, &|tree| call(tree).difference(with).is_some());
+        let difference = call(&smallest).difference(with).expect("it differed before");
+        self.report(subject, Some(&smallest), &rooms, difference);
+    }
+
+    fn report(&mut self, subject: usize, tree: Option<&Tree>, rooms: &str, difference: Difference) {
         self.differences += 1;
         println!("difference {} ({}): {rooms}", self.differences, self.phase);
         if let Some(tree) = tree {
@@ -198,34 +214,52 @@ impl Comparison {
                 print!("{}", text::write(tree));
             }
         }
-        print_two(self.subject.name, &difference);
+        print_two(self.subjects[subject].name, &difference);
     }
 }
 
-/// kaori's number, and the difference from a tree's answer with room for all and some bytes more.
-fn tree_difference(subject: &Subject, tree: &Tree) -> (u32, Option<Difference>) {
+/// A call and the answer wanted.
+struct Wanted {
+    input: Input,
+    by: &'static str,
+    answer: Answer,
+    /// Whether the answer can be right: where kaori has none, the model must refuse.
+    sound: bool,
+}
+
+impl Wanted {
+    fn number(&self) -> u32 {
+        self.answer.result[0]
+    }
+
+    fn difference(&self, subject: &Subject) -> Option<Difference> {
+        let given = subject.answer(&self.input);
+        let differs = self.answer != given || !self.sound;
+        differs.then(|| Difference { by: self.by, wanted: self.answer.clone(), given })
+    }
+}
+
+/// A checked tree with room for all that kaori makes and some bytes more.
+fn wanted_of_tree(tree: &Tree) -> Wanted {
     let reference = reference(tree);
     let mut room = Room::records(reference.code.len() + 2, reference.constants.len() + 1, reference.marks.len() + 2);
     (room.code, room.constants, room.marks) = (room.code + 15, room.constants + 5, room.marks + 3);
     let input = tree.input(room);
-    let wanted = reference.answer(&input);
-    let given = subject.answer(&input);
-    (reference.result[0], (wanted != given).then_some(Difference { by: "kaori", wanted, given }))
+    let answer = reference.answer(&input);
+    Wanted { input, by: "kaori", answer, sound: true }
 }
 
-/// The number of a call, and the difference. Where kaori has no answer, the model's is wanted, and it must refuse.
-fn call_difference(subject: &Subject, input: &Input) -> (u32, Option<Difference>) {
-    let given = subject.answer(input);
-    let (by, wanted, sound) = match reference_answer(input) {
-        Some((wanted, _)) => ("kaori", wanted, true),
+/// Any call. Where kaori has no answer, the model's is wanted.
+fn wanted_of_call(input: &Input) -> Wanted {
+    let (by, answer, sound) = match reference_answer(input) {
+        Some((answer, _)) => ("kaori", answer, true),
         None => {
-            let wanted = model::lower(input);
-            let sound = is_refused_before_the_walk(input, &wanted);
-            ("the model", wanted, sound)
+            let answer = model::lower(input);
+            let sound = is_refused_before_the_walk(input, &answer);
+            ("the model", answer, sound)
         }
     };
-    let number = wanted.result[0];
-    (number, (wanted != given || !sound).then_some(Difference { by, wanted, given }))
+    Wanted { input: input.clone(), by, answer, sound }
 }
 
 fn is_refused_before_the_walk(input: &Input, answer: &Answer) -> bool {
@@ -315,8 +349,7 @@ impl Comparison {
     fn chains(&mut self, _: u64) {
         let depths = [1, 2, 3, 30, 126, 127, 128, 250, 251, 252, 253, 254, 255, 256, 257, 600, 1364, 2000, 4093];
         for shape in CHAINS {
-            let level = if shape == "if condition, compared" { 2 } else { 1 };
-            for depth in depths.into_iter().filter(|depth| 3 + level * depth <= MOST_NODES) {
+            for depth in depths {
                 for (leaf, names) in [(0, &[0, 1][..]), (1, &[0, 1]), (2, &[0, 1]), (1, &[0]), (1, &[1, 0, 1])] {
                     let mode = (depth as u32 + leaf) % 3;
                     self.tree(&Tree { mode, ..generate::chain(shape, depth, leaf, names) });
@@ -456,13 +489,17 @@ impl Comparison {
         for index in [0, 1, 2, 3, count.wrapping_sub(1), count, count + 1] {
             // Bytes past the records must stay.
             let code = [bytes(records.as_flattened()), vec![9; 7]].concat();
-            let mut given = code.clone();
-            let number = (self.subject.patch)(&mut given, count as u64, index as u64, offset);
-            let (number_wanted, wanted) = patch_wanted(&code, records, count, index, offset);
+            let (index, count) = (index as u32, count as u32);
+            let wanted = patch_wanted(&code, records, count, index, offset);
             self.patches += 1;
-            if (number, given) != (number_wanted, wanted) {
-                self.differences += 1;
-                println!("difference in patching: count {count}, index {index}, offset {offset}, of {records:?}");
+            for subject in &self.subjects {
+                let mut given = code.clone();
+                let number = (subject.patch)(&mut given, count, index, offset);
+                if (number, given) != wanted {
+                    self.differences += 1;
+                    println!("difference in patching, by the {}:", subject.name);
+                    println!("count {count}, index {index}, offset {offset}, of {records:?}");
+                }
             }
             if self.gave_up() {
                 return;
@@ -472,21 +509,22 @@ impl Comparison {
 }
 
 /// The number and the code after, by kaori; by the model where kaori has no such records or buffer.
-fn patch_wanted(code: &[u8], records: &[[u32; 4]], count: usize, index: usize, offset: u32) -> (u32, Vec<u8>) {
+fn patch_wanted(code: &[u8], records: &[[u32; 4]], count: u32, index: u32, offset: u32) -> (u32, Vec<u8>) {
     let mut after = code.to_vec();
-    let by_kaori = (count <= records.len()).then(|| patched_by_kaori(records, count, index, offset)).flatten();
+    let by_kaori = (count as usize <= records.len()).then(|| patched_by_kaori(records, count, index, offset)).flatten();
     match by_kaori {
         Some((number, patched)) => {
             let patched = bytes(patched.as_flattened());
             after[..patched.len()].copy_from_slice(&patched);
             (number, after)
         }
-        None => (model::patch(&mut after, count as u64, index as u64, offset), after),
+        None => (model::patch(&mut after, count, index, offset), after),
     }
 }
 
 /// kaori's `patch_jump` on the first `count` records; the others stay. Where kaori cannot hold them all, on the one.
-fn patched_by_kaori(records: &[[u32; 4]], count: usize, index: usize, offset: u32) -> Option<(u32, Vec<[u32; 4]>)> {
+fn patched_by_kaori(records: &[[u32; 4]], count: u32, index: u32, offset: u32) -> Option<(u32, Vec<[u32; 4]>)> {
+    let (count, index) = (count as usize, index as usize);
     let mut after = records.to_vec();
     if let Some((number, patched)) = reference_patch(&records[..count], index as u32, offset) {
         after[..count].copy_from_slice(&patched);

@@ -71,7 +71,7 @@ fn spanned(symbol: u32, span: Span) -> Spanned<Symbol> {
 }
 
 /// The tree as kaori's arena, and kaori's id of each node. A node used twice is one id used twice.
-fn ast(tree: &Tree, spans: Spans) -> (Ast, Vec<NodeId>) {
+pub fn ast(tree: &Tree, spans: Spans) -> (Ast, Vec<NodeId>) {
     let mut ast = Ast::default();
     let mut ids = Vec::with_capacity(tree.nodes.len());
     for (index, node) in tree.nodes.iter().enumerate() {
@@ -141,7 +141,7 @@ fn lower_ast(ast: &Ast, root: NodeId, tree: &Tree, limits: Limits) -> Run {
 }
 
 /// Up to `patch_arguments`. The place is the jump's in modes 1 and 2, else 0.
-fn walk(lower: &mut Lower, tree: &Tree, root: NodeId) -> Result<u32, Error> {
+pub fn walk(lower: &mut Lower, tree: &Tree, root: NodeId) -> Result<u32, Error> {
     for &name in &tree.names {
         let register = lower.env.allocate_local();
         lower.env.declare_local(Symbol(name), register);

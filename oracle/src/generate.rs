@@ -36,7 +36,7 @@ fn with_span([kind, a, b, c]: [u32; 4], place: usize) -> Node {
     [kind, a, b, c, 1_000_000 + 3 * place as u32, 2_000_000_000 + 7 * place as u32]
 }
 
-fn number_words(value: f64) -> [u32; 4] {
+pub fn number_words(value: f64) -> [u32; 4] {
     [kind::NUMBER, value.to_bits() as u32, (value.to_bits() >> 32) as u32, 0]
 }
 
@@ -392,7 +392,7 @@ impl Maker<'_> {
 }
 
 /// Shapes of chains: which operand of each level is the level below.
-pub const CHAINS: [&str; 25] = [
+pub const CHAINS: [&str; 26] = [
     "block",
     "not",
     "negate",
@@ -407,6 +407,7 @@ pub const CHAINS: [&str; 25] = [
     "binary right, name left",
     "if condition",
     "if condition, compared",
+    "if condition, compared right",
     "if then",
     "if else",
     "if then and else",
@@ -420,57 +421,89 @@ pub const CHAINS: [&str; 25] = [
     "map value of a name",
 ];
 
+/// Chains that go on without taking a register a level, so that nodes and list alone end them.
+pub const LEVELS: [&str; 13] = [
+    "block",
+    "and left",
+    "and right",
+    "or left",
+    "or right",
+    "if condition",
+    "if condition, compared",
+    "if condition, compared right",
+    "if then",
+    "if else",
+    "only argument",
+    "last argument",
+    "first argument",
+];
+
 /// Three leaves (the number 1, the first parameter, the second), then `depth` levels over `leaf`, or as
-/// many as the list holds.
+/// many as nodes and list hold.
 pub fn chain(shape: &str, depth: usize, leaf: u32, names: &[u32]) -> Tree {
-    let mut tree = Tree { names: names.to_vec(), ..Tree::default() };
+    levels(&mut std::iter::repeat_n(shape, depth), leaf, names)
+}
+
+/// The given levels in turn, as many as nodes and list hold, over the first of two parameters.
+pub fn alternating(shapes: &[&str]) -> Tree {
+    levels(&mut shapes.iter().copied().cycle(), 1, &[0, 1])
+}
+
+fn levels<'a>(shapes: &mut dyn Iterator<Item = &'a str>, leaf: u32, names: &[u32]) -> Tree {
+    let mut tree = Tree { names: names.to_vec(), root: leaf, ..Tree::default() };
     for words in [number_words(1.0), [kind::NAME, 0, 0, 0], [kind::NAME, 1, 0, 0]] {
         push(&mut tree, words);
     }
-    let (number, x, y) = (0, 1, 2);
-    let mut below = leaf;
-    for _ in 0..depth {
-        let first = tree.list.len() as u32;
-        let (words, part) = match shape {
-            "block" => ([kind::BLOCK, below, 0, 0], vec![]),
-            "not" => ([kind::NOT, below, 0, 0], vec![]),
-            "negate" => ([kind::UNARY, 0, below, 0], vec![]),
-            "deref" => ([kind::UNARY, 1, below, 0], vec![]),
-            "and left" => ([kind::AND, below, x, 0], vec![]),
-            "and right" => ([kind::AND, x, below, 0], vec![]),
-            "or left" => ([kind::OR, below, number, 0], vec![]),
-            "or right" => ([kind::OR, number, below, 0], vec![]),
-            "binary left, number right" => ([kind::BINARY, operator::SUBTRACT, below, number], vec![]),
-            "binary right, number left" => ([kind::BINARY, operator::SUBTRACT, number, below], vec![]),
-            "binary left, name right" => ([kind::BINARY, operator::GREATER, below, x], vec![]),
-            "binary right, name left" => ([kind::BINARY, operator::MULTIPLY, x, below], vec![]),
-            "if condition" => ([kind::IF, below, x, number], vec![]),
-            "if condition, compared" => {
-                push(&mut tree, [kind::BINARY, operator::LESS, below, x]);
-                ([kind::IF, tree.nodes.len() as u32 - 1, x, number], vec![])
-            }
-            "if then" => ([kind::IF, x, below, number], vec![]),
-            "if else" => ([kind::IF, x, x, below], vec![]),
-            "if then and else" => ([kind::IF, x, below, below], vec![]),
-            "callee" => ([kind::CALL, below, first, 1], vec![number]),
-            "only argument" => ([kind::CALL, x, first, 1], vec![below]),
-            "last argument" => ([kind::CALL, x, first, 3], vec![number, y, below]),
-            "first argument" => ([kind::CALL, y, first, 2], vec![below, number]),
-            "property" => ([kind::PROPERTY, below, 5, 0], vec![]),
-            "map key" => ([kind::MAP, first, 1, 0], vec![below, x]),
-            "map value" => ([kind::MAP, first, 1, 0], vec![number, below]),
-            "map value of a name" => ([kind::MAP, first, 1, 0], vec![y, below]),
-            other => panic!("no chain {other}"),
-        };
-        if tree.list.len() + part.len() > MOST_LIST_WORDS {
+    for shape in shapes {
+        let (nodes, part) = level(shape, tree.root, tree.list.len() as u32, tree.nodes.len() as u32);
+        if tree.nodes.len() + nodes.len() > MOST_NODES || tree.list.len() + part.len() > MOST_LIST_WORDS {
             break;
         }
         tree.list.extend(part);
-        push(&mut tree, words);
-        below = tree.nodes.len() as u32 - 1;
+        nodes.into_iter().for_each(|words| push(&mut tree, words));
+        tree.root = tree.nodes.len() as u32 - 1;
     }
-    tree.root = below;
     tree
+}
+
+/// One level over the node `below`: its nodes, the last on top, and its part of the list.
+fn level(shape: &str, below: u32, first: u32, next: u32) -> (Vec<[u32; 4]>, Vec<u32>) {
+    let (number, x, y) = (0, 1, 2);
+    let one = |words: [u32; 4]| (vec![words], vec![]);
+    let over = |words: [u32; 4], part: &[u32]| (vec![words], part.to_vec());
+    match shape {
+        "block" => one([kind::BLOCK, below, 0, 0]),
+        "not" => one([kind::NOT, below, 0, 0]),
+        "negate" => one([kind::UNARY, 0, below, 0]),
+        "deref" => one([kind::UNARY, 1, below, 0]),
+        "and left" => one([kind::AND, below, x, 0]),
+        "and right" => one([kind::AND, x, below, 0]),
+        "or left" => one([kind::OR, below, number, 0]),
+        "or right" => one([kind::OR, number, below, 0]),
+        "binary left, number right" => one([kind::BINARY, operator::SUBTRACT, below, number]),
+        "binary right, number left" => one([kind::BINARY, operator::SUBTRACT, number, below]),
+        "binary left, name right" => one([kind::BINARY, operator::GREATER, below, x]),
+        "binary right, name left" => one([kind::BINARY, operator::MULTIPLY, x, below]),
+        "if condition" => one([kind::IF, below, x, number]),
+        "if condition, compared" => {
+            (vec![[kind::BINARY, operator::LESS, below, x], [kind::IF, next, x, number]], vec![])
+        }
+        "if condition, compared right" => {
+            (vec![[kind::BINARY, operator::EQUAL, x, below], [kind::IF, next, x, number]], vec![])
+        }
+        "if then" => one([kind::IF, x, below, number]),
+        "if else" => one([kind::IF, x, x, below]),
+        "if then and else" => one([kind::IF, x, below, below]),
+        "callee" => over([kind::CALL, below, first, 1], &[number]),
+        "only argument" => over([kind::CALL, x, first, 1], &[below]),
+        "last argument" => over([kind::CALL, x, first, 3], &[number, y, below]),
+        "first argument" => over([kind::CALL, y, first, 2], &[below, number]),
+        "property" => one([kind::PROPERTY, below, 5, 0]),
+        "map key" => over([kind::MAP, first, 1, 0], &[below, x]),
+        "map value" => over([kind::MAP, first, 1, 0], &[number, below]),
+        "map value of a name" => over([kind::MAP, first, 1, 0], &[y, below]),
+        other => panic!("no chain {other}"),
+    }
 }
 
 fn push(tree: &mut Tree, words: [u32; 4]) {

@@ -1,13 +1,15 @@
-//! oracle compare [--seed N] [--trees N] | answer | record DIR
+//! oracle compare [--seed N] [--trees N] | depth | clock | answer | record DIR
 
 use oracle::{
-    compare::{Comparison, model_subject},
-    model, record,
-    reference::Source,
+    clock,
+    compare::{Comparison, model_subject, port_subject},
+    depth, model, record,
+    reference::{Source, caught},
     text,
 };
 use std::{
     env, fs,
+    hint::black_box,
     io::{self, Read},
     path::Path,
     process::ExitCode,
@@ -17,9 +19,10 @@ use std::{
 /// kaori and the model recurse with the tree: 4,096 levels of up to three functions.
 const STACK: usize = 1 << 30;
 
-const DEFAULT_TREES: u64 = 400_000;
+const DEFAULT_TREES: u64 = 300_000;
 
-const USAGE: &str = "oracle compare [--seed N] [--trees N]\noracle answer < TEXT\noracle record DIR";
+const USAGE: &str =
+    "oracle compare [--seed N] [--trees N]\noracle depth\noracle clock\noracle answer < TEXT\noracle record DIR";
 
 fn main() -> ExitCode {
     thread::Builder::new().stack_size(STACK).spawn(run).unwrap().join().unwrap_or(ExitCode::FAILURE)
@@ -34,6 +37,8 @@ fn run() -> ExitCode {
             None => usage(),
         },
         ["answer"] => answer(),
+        ["clock"] => clock(),
+        ["depth"] => depth(),
         ["record", folder] => record_into(Path::new(folder)),
         _ => usage(),
     }
@@ -58,7 +63,7 @@ fn compare_options(options: &[&str]) -> Option<(u64, u64)> {
 
 fn compare(seed: u64, trees: u64) -> ExitCode {
     println!("seed {seed}, {trees} random trees");
-    let mut comparison = Comparison::new(model_subject(), seed);
+    let mut comparison = Comparison::new(vec![port_subject(), model_subject()], seed);
     comparison.run(trees);
     println!("lowerings by number:");
     for (number, count) in comparison.numbers.iter().enumerate() {
@@ -99,6 +104,49 @@ fn answer() -> ExitCode {
         answer
     });
     print!("{listing}");
+    ExitCode::SUCCESS
+}
+
+/// The port against kaori at its best, by size, form and constants.
+fn clock() -> ExitCode {
+    if caught(|| black_box(u8::MAX) + black_box(1)).is_err() {
+        eprintln!("built with overflow checks: the clock is for `cargo run --profile clock`");
+    }
+    println!("  nodes  form   constants   made (pooled)   port ns/node   kaori ns/node (new vectors)   port/kaori");
+    clock::timings(|timing| {
+        let a_node = |time: f64| time / timing.nodes as f64;
+        println!(
+            "{:>7}  {:<5}  {:<9}  {:>6} {:>8}  {:>13.1}  {:>14.1} {:>13}  {:>11.2}",
+            timing.nodes,
+            format!("{:?}", timing.form).to_lowercase(),
+            format!("{:?}", timing.constants).to_lowercase(),
+            timing.instructions,
+            format!("({})", timing.pooled),
+            a_node(timing.port),
+            a_node(timing.kaori_kept),
+            format!("({:.1})", a_node(timing.kaori_new)),
+            timing.ratio(),
+        );
+    });
+    ExitCode::SUCCESS
+}
+
+/// Every shape's stack; then each on a normal thread.
+fn depth() -> ExitCode {
+    let shapes = depth::shapes();
+    let mut most = 0;
+    for shape in &shapes {
+        let used = shape.used();
+        println!("{:>9} bytes, {} nodes, number {:>2}: {}", used.bytes, used.nodes, used.number, shape.name);
+        most = most.max(used.bytes);
+    }
+    println!("{most} bytes at most, of {} that a normal thread has", depth::THREAD_STACK);
+    if most > depth::MOST_TAKEN {
+        println!("more than {} bytes, which leaves the caller too little", depth::MOST_TAKEN);
+        return ExitCode::FAILURE;
+    }
+    shapes.iter().for_each(depth::Shape::runs);
+    println!("each runs on a normal thread");
     ExitCode::SUCCESS
 }
 

@@ -219,9 +219,9 @@ pub fn lower(input: &Input) -> Answer {
 }
 
 /// Patching: 0, and the offset word set, or 19.
-pub fn patch(code: &mut [u8], count: u64, index: u64, offset: u32) -> u32 {
+pub fn patch(code: &mut [u8], count: u32, index: u32, offset: u32) -> u32 {
     let mut buffer = Buffer::new(code, INSTRUCTION_WORDS);
-    if index >= count || count > buffer.records() as u64 {
+    if index >= count || count as usize > buffer.records() {
         return number::NO_JUMP;
     }
     let kind = buffer.word(index as usize, 0);

@@ -2,7 +2,7 @@
 
 use crate::{
     cases::{self, Case},
-    model,
+    model, port,
     reference::{Source, instruction_names, reference, reference_answer, reference_patch},
     text,
     tree::{Answer, Input, Room, Tree, bytes, words},
@@ -102,6 +102,7 @@ fn record(name: String, text: Vec<u8>) -> Recorded {
 fn agreed_answer(name: &str, input: &Input) -> (Answer, u32) {
     let (answer, source) = kaori_or_model(input);
     assert!(answer == model::lower(input), "kaori and the model differ on {name}");
+    assert!(answer == port::lower(input), "the port differs on {name}");
     let source = match source {
         Some(Source::Kaori) => KAORI,
         Some(Source::Panic) => PANIC,
@@ -242,7 +243,10 @@ fn patches() -> Vec<Recorded> {
 
 fn recorded_patch(name: String, source: u32, code: &[u8], [count, index, offset]: [u32; 3]) -> Recorded {
     let mut after = code.to_vec();
-    let number = model::patch(&mut after, count as u64, index as u64, offset);
+    let number = model::patch(&mut after, count, index, offset);
+    let mut ported = code.to_vec();
+    let same = port::patch(&mut ported, count, index, offset) == number && ported == after;
+    assert!(same, "the port differs on patching: {name}");
     let text = text::line(&[code.len() as u32, count, index, offset]) + &word_lines(&[code]);
     Recorded { name, source, text: text.into_bytes(), answer: text::line(&[number]) + &word_lines(&[&after]) }
 }

@@ -1,9 +1,9 @@
 //! The comparison finds what it is made to find.
 
 use oracle::{
-    compare::{Comparison, Subject, model_subject},
+    compare::{Comparison, Subject, model_subject, port_subject},
     generate::{Profile, Random, random_tree},
-    model, record,
+    model, port, record,
     reference::instruction_names,
     shrink::shrink,
     text,
@@ -12,8 +12,12 @@ use oracle::{
 use std::thread;
 
 fn differences(lower: impl Fn(&Input) -> Answer + Send + 'static) -> u64 {
+    compared(move || vec![Subject { lower: Box::new(lower), ..model_subject() }])
+}
+
+fn compared(subjects: impl FnOnce() -> Vec<Subject> + Send + 'static) -> u64 {
     let run = move || {
-        let mut comparison = Comparison::new(Subject { lower: Box::new(lower), ..model_subject() }, 3);
+        let mut comparison = Comparison::new(subjects(), 3);
         comparison.run(300);
         comparison.differences
     };
@@ -21,8 +25,15 @@ fn differences(lower: impl Fn(&Input) -> Answer + Send + 'static) -> u64 {
 }
 
 #[test]
-fn the_model_passes() {
-    assert_eq!(differences(model::lower), 0);
+fn the_port_and_the_model_pass() {
+    assert_eq!(compared(|| vec![port_subject(), model_subject()]), 0);
+}
+
+/// A fault of the second subject is found beside a first that has none.
+#[test]
+fn each_subject_is_compared() {
+    let never = |_: &mut [u8], _, _, _| 19;
+    assert!(compared(move || vec![port_subject(), Subject { patch: Box::new(never), ..model_subject() }]) > 0);
 }
 
 #[test]
@@ -99,14 +110,14 @@ fn texts_are_read_as_written() {
     }
 }
 
-/// Recorded answers can be replayed from the files alone, as their headers say.
+/// The port replays recorded answers from the files alone, as their headers say.
 #[test]
 fn recorded_answers_replay() {
     for file in record::files() {
         let again: fn(&[u8]) -> String = match file.name {
             "calls.txt" => call_again,
             "patches.txt" => patch_again,
-            _ => |text| text::lowerlist(text, model::lower),
+            _ => |text| text::lowerlist(text, port::lower),
         };
         replay(&file.bytes(), again);
     }
@@ -171,7 +182,7 @@ fn call_again(text: &[u8]) -> String {
         constants: filled(head[6]),
         marks: filled(head[7]),
     };
-    let answer = model::lower(&input);
+    let answer = port::lower(&input);
     text::line(&answer.result) + &lines(&[&answer.code, &answer.constants, &answer.marks])
 }
 
@@ -179,7 +190,7 @@ fn patch_again(text: &[u8]) -> String {
     let numbers = numbers(text);
     let (head, mut rest) = numbers.split_at(4);
     let mut code = slice(&mut rest, head[0]);
-    let number = model::patch(&mut code, head[1] as u64, head[2] as u64, head[3]);
+    let number = port::patch(&mut code, head[1], head[2], head[3]);
     text::line(&[number]) + &lines(&[&code])
 }
 

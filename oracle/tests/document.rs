@@ -1,9 +1,9 @@
-//! Document 01's cases and the examples of READINGS.md, on kaori and on the model.
+//! Document 01's cases and the readings of its open points, on kaori, on the model and on the port.
 
 use oracle::{
     cases::{self, Case, Known},
     expression::{self, Expression, X, Y, and, binary, call, if_else, map, not, number, property, x, y, z},
-    generate, model,
+    generate, model, port,
     reference::{instruction_names, reference, reference_answer, reference_patch},
     text,
     tree::{Answer, MOST_INSTRUCTIONS, MOST_NODES, Room, Tree, bytes, kind, operator, words},
@@ -46,12 +46,15 @@ fn check(case: &Case, by: &str, answer: &Answer) {
 }
 
 #[test]
-fn every_case_by_kaori_and_by_the_model() {
+fn every_case_by_kaori_the_model_and_the_port() {
     deep(|| {
         for case in cases::all() {
             let input = case.tree.input(ample());
             let modelled = model::lower(&input);
             check(&case, "the model", &modelled);
+            let ported = port::lower(&input);
+            check(&case, "the port", &ported);
+            assert_eq!(ported, modelled, "{}", case.name);
             match case.tree.is_checked() {
                 true => {
                     let plain = reference(&case.tree).answer(&input);
@@ -91,6 +94,7 @@ fn the_worked_page() {
     assert_eq!(text::write(&cases::worked_page()), PAGE);
     assert_eq!(text::read(PAGE.as_bytes()), Some(cases::worked_page()));
     assert_eq!(text::lowerlist(PAGE.as_bytes(), model::lower), PRINTED);
+    assert_eq!(text::lowerlist(PAGE.as_bytes(), port::lower), PRINTED);
     assert_eq!(text::lowerlist(PAGE.as_bytes(), |input| reference_answer(input).unwrap().0), PRINTED);
 }
 
@@ -108,16 +112,17 @@ fn every_number_has_a_case() {
     });
 }
 
-/// kaori over bounded buffers and the model, which must agree.
-fn both(tree: &Tree, room: Room) -> Answer {
+/// kaori over bounded buffers, the model and the port, which must agree.
+fn agreed(tree: &Tree, room: Room) -> Answer {
     let input = tree.input(room);
     let modelled = model::lower(&input);
     assert_eq!(reference_answer(&input).expect("a checked tree").0, modelled);
+    assert_eq!(port::lower(&input), modelled);
     modelled
 }
 
 fn lowered(names: &[u32], expression: Expression, room: Room) -> Answer {
-    both(&expression::tree(0, names, &expression), room)
+    agreed(&expression::tree(0, names, &expression), room)
 }
 
 /// Reading 1: a text is past the bounds by nodes, list words and parameters; the buffers refuse on their own.
@@ -146,7 +151,7 @@ fn bounds_of_the_program() {
 #[test]
 fn most_instructions() {
     deep(|| {
-        let made = |tree: &Tree| both(tree, Room::records(MOST_INSTRUCTIONS + 9, 1, 1)).result;
+        let made = |tree: &Tree| agreed(tree, Room::records(MOST_INSTRUCTIONS + 9, 1, 1)).result;
         // A level is two of the level below and a jump: with Return, 20 levels of code from the name up are 2^20.
         let mut tree = generate::doubling(19);
         assert_eq!(made(&tree), [0, 0, 0, 0, MOST_INSTRUCTIONS as u32, 0, 2, 1]);
@@ -174,6 +179,9 @@ fn whole_records() {
     }
 }
 
+/// Patching, by the model and by the port.
+const PATCHES: [fn(&mut [u8], u32, u32, u32) -> u32; 2] = [model::patch, port::patch];
+
 /// Reading 9: which kinds are jumps, and which word holds the offset, for all 55.
 #[test]
 fn patching() {
@@ -181,10 +189,12 @@ fn patching() {
     for (kind, (name, fields)) in instruction_names().iter().enumerate() {
         let mut record = [kind as u32, 0, 0, 0];
         (1..=fields.len()).for_each(|word| record[word] = word as u32);
-        let mut code = bytes(&record);
-        let number = model::patch(&mut code, 1, 0, 0xFFFF_FFFE);
-        let (kaori, after) = reference_patch(&[record], 0, 0xFFFF_FFFE).expect("an instruction of kaori's");
-        assert_eq!((number, code), (kaori, bytes(&after[0])), "{name}");
+        let (number, after) = reference_patch(&[record], 0, 0xFFFF_FFFE).expect("an instruction of kaori's");
+        for patch in PATCHES {
+            let mut code = bytes(&record);
+            assert_eq!(patch(&mut code, 1, 0, 0xFFFF_FFFE), number, "{name}");
+            assert_eq!(code, bytes(&after[0]), "{name}");
+        }
         assert_eq!(number == 0, (41..=53).contains(&kind), "{name}");
         let offset = fields.iter().position(|field| *field == "offset").map(|place| place + 1);
         let expected = match kind {
@@ -196,12 +206,14 @@ fn patching() {
         assert_eq!(offset, expected, "{name}");
     }
     let jump = bytes(&[41, 0, 0, 0]);
-    let patch = |length: usize, count, index| model::patch(&mut jump.repeat(3)[..length], count, index, 5);
-    assert_eq!(
-        [patch(48, 3, 2), patch(48, 3, 3), patch(48, 4, 1), patch(47, 3, 1), patch(47, 2, 1)],
-        [0, 19, 19, 19, 0]
-    );
-    assert_eq!([patch(48, 0, 0), patch(48, u64::MAX, 1), patch(48, 3, u64::MAX)], [19, 19, 19]);
+    for patch in PATCHES {
+        let patch = |length: usize, count, index| patch(&mut jump.repeat(3)[..length], count, index, 5);
+        assert_eq!(
+            [patch(48, 3, 2), patch(48, 3, 3), patch(48, 4, 1), patch(47, 3, 1), patch(47, 2, 1)],
+            [0, 19, 19, 19, 0]
+        );
+        assert_eq!([patch(48, 0, 0), patch(48, u32::MAX, 1), patch(48, 3, u32::MAX)], [19, 19, 19]);
+    }
 }
 
 /// Reading 12: a list part at the list's end, and counts that pass 32 bits.
@@ -268,14 +280,9 @@ fn keys_are_pooled_late() {
 fn deep_chains() {
     deep(|| {
         for shape in generate::CHAINS {
-            let tree = generate::chain(
-                shape,
-                MOST_NODES - 3 - MOST_NODES / 2 * (shape == "if condition, compared") as usize,
-                1,
-                &[0, 1],
-            );
+            let tree = generate::chain(shape, MOST_NODES, 1, &[0, 1]);
             if tree.walk_size() < 1_000_000 {
-                both(&tree, ample());
+                agreed(&tree, ample());
             }
         }
     });

@@ -21,6 +21,10 @@ and-true : (a b : Bool) → (a && b) ≡ true → (a ≡ true) × (b ≡ true)
 and-true true b e = (refl, e)
 and-true false b e = absurd (false≢true e)
 
+and-false : (a : Bool) → (a && false) ≡ false
+and-false true = refl
+and-false false = refl
+
 -- the same words are equal lists, and equal lists the same words
 pub same-equal : (xs ys : List ℕ) → sameWords xs ys ≡ true → xs ≡ ys
 unfolding sameWords
@@ -59,6 +63,13 @@ module _ (ws : List ℕ) (at : ℕ) (r : List ℕ) where
 
     pub same-differs : (getD ws (at + k) 0 ≡ getD r k 0 → ⊥) → restSame k ≡ false
     same-differs e = next ∙ rw (ne-eqb _ _ e)
+
+  -- words that differ from some place on differ
+  pub same-from : at + length r ≤ length ws → (k : ℕ) → k ≤ length r → restSame k ≡ false → restSame 0 ≡ false
+  same-from fits zero h e = e
+  same-from fits (suc k) h e =
+      let n : k + 1 ≡ suc k = omega arith in
+      same-from fits k (omega arith) (next fits k (omega arith) ∙ rw (n, e) (and-false (eqb (getD ws (at + k) 0) (getD r k 0))))
 
   pub same-end : (k : ℕ) → length r ≤ k → restSame k ≡ true
   unfolding sameWords restSame

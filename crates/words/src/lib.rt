@@ -23,18 +23,22 @@ fn wide(x: u8) -> u32
     x as u32
 }
 
+// The word at i, which is one of the whole words.
+fn whole_word(s: &[u8], i: usize) -> u32
+    requires { ⌜ i < length (words (now s)) ⌝ }
+    ensures { λ r. ⌜ r ≡ getD (words (now (s .entry))) i 0 ⌝ }
+{
+    wide(s[4 * i])
+        + 256 * wide(s[4 * i + 1])
+        + 65536 * wide(s[4 * i + 2])
+        + 16777216 * wide(s[4 * i + 3])
+}
+
 // The word at i; 0 past the last whole word.
 pub fn word(s: &[u8], i: usize) -> u32
     ensures { λ r. ⌜ r ≡ getD (words (now (s .entry))) i 0 ⌝ }
 {
-    if i < s.len() / 4 {
-        wide(s[4 * i])
-            + 256 * wide(s[4 * i + 1])
-            + 65536 * wide(s[4 * i + 2])
-            + 16777216 * wide(s[4 * i + 3])
-    } else {
-        0
-    }
+    if i < s.len() / 4 { whole_word(s, i) } else { 0 }
 }
 
 // Makes the word at i x; past the last whole word nothing changes.
@@ -93,17 +97,17 @@ pub fn append(s: &mut [u8], count: u32, limit: u32, item: &[u32], refusal: Refus
     }
 }
 
-// Whether the words from `at` on are those of `item`.
+// Whether the words from `at` on are those of `item`. Constants differ in their last word more often than in their first, which is their kind.
 fn same_words(s: &[u8], at: usize, item: &[u32]) -> bool
     requires { ⌜ at + length (now item) ≤ length (words (now s)) ⌝ }
     ensures { λ r. ⌜ r ≡ sameWords (take (length (now (item .entry))) (drop at (words (now (s .entry))))) (now (item .entry)) ⌝ }
 {
-    let mut k = 0;
-    while k < item.len() {
-        if word(s, at + k) != item[k] {
+    let mut k = item.len();
+    while 0 < k {
+        k -= 1;
+        if whole_word(s, at + k) != item[k] {
             return false;
         }
-        k += 1;
     }
     true
 }

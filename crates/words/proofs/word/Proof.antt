@@ -1,103 +1,18 @@
--- `words::word` meets its contract: the four bytes of a whole word make it, and past the last there is none. Assumes nothing.
+-- `words::word` meets its contract: a whole word is there, and past the last there is none. Assumes nothing.
 use native.Mathlib.Omega.{arith}
-use Rattle.words.proofs.Words.{word-in, word-out}
 use borrow.Author.Needs.{needs}
+use Rattle.words.proofs.Words.{length-words, word-out}
 use Rattle.words.proofs.word.Statement.{statement}
 use Rattle.words.proofs.word.Tie as tie
 
-mul-wide : tie.Need-mul-wide
-mul-wide c = search needs
-
-shared-slice-read-wide : tie.Need-shared-slice-read-wide
-shared-slice-read-wide c = search needs
-
-wide-requires : tie.Need-wide-requires
-wide-requires c κs = search needs
-
-mul-wide-2 : tie.Need-mul-wide-2
-mul-wide-2 c = search needs
-
-add-wide : tie.Need-add-wide
-add-wide c = search needs
-
-shared-slice-read-wide-2 : tie.Need-shared-slice-read-wide-2
-shared-slice-read-wide-2 c = search needs
-
-wide-requires-2 : tie.Need-wide-requires-2
-wide-requires-2 c κs = search needs
-
-mul-result : tie.Need-mul-result
-mul-result c = search needs
-
-add-result : tie.Need-add-result
-add-result c = search needs
-
-mul-wide-3 : tie.Need-mul-wide-3
-mul-wide-3 c = search needs
-
-add-wide-2 : tie.Need-add-wide-2
-add-wide-2 c = search needs
-
-shared-slice-read-wide-3 : tie.Need-shared-slice-read-wide-3
-shared-slice-read-wide-3 c = search needs
-
-wide-requires-3 : tie.Need-wide-requires-3
-wide-requires-3 c κs = search needs
-
-mul-result-2 : tie.Need-mul-result-2
-mul-result-2 c = search needs
-
-add-result-2 : tie.Need-add-result-2
-add-result-2 c = search needs
-
-mul-wide-4 : tie.Need-mul-wide-4
-mul-wide-4 c = search needs
-
-add-wide-3 : tie.Need-add-wide-3
-add-wide-3 c = search needs
-
-shared-slice-read-wide-4 : tie.Need-shared-slice-read-wide-4
-shared-slice-read-wide-4 c = search needs
-
-wide-requires-4 : tie.Need-wide-requires-4
-wide-requires-4 c κs = search needs
-
-mul-result-3 : tie.Need-mul-result-3
-mul-result-3 c = search needs
-
-add-result-3 : tie.Need-add-result-3
-add-result-3 c = search needs
+whole-word-requires : tie.Need-whole-word-requires
+whole-word-requires c κs = omega (arith, length-words (c .before .before .args .s .now))
 
 returns : tie.Need-returns
-returns c = word-in _ _ (omega arith) (c .before .before .before .before .before .before .wide .ensures .0) (c .before .before .before .before .wide2 .ensures .0) (c .before .before .wide3 .ensures .0) (c .wide4 .ensures .0)
+returns c = search needs
 
 returns-2 : tie.Need-returns-2
 returns-2 c = word-out _ _ (omega arith)
 
 pub word-spec : {M : Type 1} → statement M
-word-spec =
-    tie.close
-    (tie.spec
-    mul-wide
-    shared-slice-read-wide
-    wide-requires
-    mul-wide-2
-    add-wide
-    shared-slice-read-wide-2
-    wide-requires-2
-    mul-result
-    add-result
-    mul-wide-3
-    add-wide-2
-    shared-slice-read-wide-3
-    wide-requires-3
-    mul-result-2
-    add-result-2
-    mul-wide-4
-    add-wide-3
-    shared-slice-read-wide-4
-    wide-requires-4
-    mul-result-3
-    add-result-3
-    returns
-    returns-2)
+word-spec = tie.close (tie.spec whole-word-requires returns returns-2)

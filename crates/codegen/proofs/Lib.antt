@@ -1,0 +1,5 @@
+pub mod Lent
+pub mod Laws
+pub mod Width
+pub mod Stored
+pub mod Program

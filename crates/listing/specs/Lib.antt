@@ -1,0 +1,3 @@
+pub mod Column
+pub mod Text
+pub mod Output

@@ -1,0 +1,74 @@
+-- "Output: the eight result numbers, instructions, constants": what is printed of what lowering leaves, and the program, from text to output.
+use Prim.Native.Nat.{ℕ, zero, suc, _*_, _/_}
+use mathlib.Core.List.{List, [], _∷_, _++_}
+use mathlib.Core.Option.{Option, none, some}
+use lib.ListN.{length, getD, drop, replicate}
+use Rattle.diagnostics.specs.declared.Refusal.{Refusal}
+use Rattle.diagnostics.specs.Refusal.{numberOf}
+use Rattle.words.specs.Words.{bytesOf}
+use Rattle.syntax.specs.Ast.{nodeWidth}
+use Rattle.runtime.specs.Instruction.{instructionWidth}
+use Rattle.runtime.specs.Value.{constantWidth}
+use Rattle.lowering.specs.Result.{Result, result, Lowered, lower}
+use Rattle.listing.specs.Column.{writeColumn}
+use Rattle.listing.specs.Text.{lineFeed, headerWidth, listWidth, nameWidth, Tree, readTree}
+
+-- a line of w columns: the first w words of ws, 0 past the last, and a line feed
+unfoldable pub writeLine : ℕ → List ℕ → List ℕ
+writeLine zero ws = lineFeed ∷ []
+writeLine (suc w) ws = writeColumn (getD ws 0 0) ++ writeLine w (drop 1 ws)
+
+-- n lines of w columns
+unfoldable pub writeLines : ℕ → ℕ → List ℕ → List ℕ
+writeLines w zero ws = []
+writeLines w (suc n) ws = writeLine w ws ++ writeLines w n (drop w ws)
+
+abbrev pub resultWidth : ℕ
+resultWidth = 8
+
+-- "Result: number (0 accepted), place, span start, span end, instructions, constants, frame size, arity."
+abbrev pub numbersOf : Result → List ℕ
+numbersOf r = r .number ∷ r .place ∷ r .start ∷ r .end ∷ r .instructions ∷ r .constants ∷ r .frameSize ∷ r .arity ∷ []
+
+-- the eight numbers, and as many instructions and constants as the fifth and the sixth say
+unfoldable pub printed : List ℕ → List ℕ → List ℕ → List ℕ
+printed numbers code constants =
+    writeLine resultWidth numbers ++ writeLines instructionWidth (getD numbers 4 0) code ++ writeLines constantWidth (getD numbers 5 0) constants
+
+unfoldable pub listing : Lowered → List ℕ
+listing l = printed (numbersOf (l .result)) (l .code) (l .constants)
+
+-- "Bounds: [..] 2,048 instructions, 512 constants, 512 marks": the program's buffers, all zeros at first
+abbrev pub maxInstructions : ℕ
+maxInstructions = 2048
+
+abbrev pub maxConstants : ℕ
+maxConstants = 512
+
+abbrev pub maxMarks : ℕ
+maxMarks = 512
+
+unfoldable pub lowerTree : Tree → Lowered
+lowerTree t =
+    lower (bytesOf (t .nodes)) (t .root) (t .mode) (bytesOf (t .list)) (bytesOf (t .names))
+    (replicate (instructionWidth * maxInstructions) 0) (replicate (constantWidth * maxConstants) 0) (replicate maxMarks 0)
+
+-- "Text laid out otherwise or past them prints number 1 and zeros."
+unfoldable pub printTree : Option Tree → List ℕ
+printTree none = printed (numbersOf (result (numberOf Refusal.Size) 0 0 0 0 0 0 0)) [] []
+printTree (some t) = listing (lowerTree t)
+
+-- the program: from the bytes of its standard input to those of its standard output
+unfoldable pub lowerlist : List ℕ → List ℕ
+lowerlist s = printTree (readTree s)
+
+-- a tree in columns: the text that gives it
+abbrev pub headerWords : Tree → List ℕ
+headerWords t = t .mode ∷ t .root ∷ length (t .nodes) / nodeWidth ∷ length (t .list) ∷ length (t .names) ∷ []
+
+unfoldable pub writeTree : Tree → List ℕ
+writeTree t =
+    writeLine headerWidth (headerWords t)
+    ++ writeLines nodeWidth (length (t .nodes) / nodeWidth) (t .nodes)
+    ++ writeLines listWidth (length (t .list)) (t .list)
+    ++ writeLines nameWidth (length (t .names)) (t .names)

@@ -1,0 +1,63 @@
+-- `steps::jump::lower_fused_rk` meets its contract: its do-block, a step a line. Assumes nothing.
+use mathlib.Core.Path.{refl, sym, _∙_}
+use Rattle.lowering.specs.Lower.{fusedSources}
+use Rattle.steps.proofs.Chains.{then-place, stop-refused}
+use borrow.Author.Needs.{needs}
+use Rattle.steps.proofs.jump.lower_fused_rk.Statement.{statement}
+use Rattle.steps.proofs.jump.lower_fused_rk.Tie as tie
+
+store-requires : tie.Need-store-requires
+store-requires c κs = search needs
+
+is-refused-requires : tie.Need-is-refused-requires
+is-refused-requires c κs = search needs
+
+same-length : tie.Need-same-length
+same-length c = search needs
+
+returns : tie.Need-returns
+unfolding fusedSources
+returns c = ((λ t E own m. stop-refused _ _ _ _ _ _ (c .before .before .before .before .store .ensures .0 _ _) (sym (c .before .is-refused .ensures) ∙ c .if1 .taken)), (refl, c .before .before .before .before .store .ensures .1))
+
+place-of-requires : tie.Need-place-of-requires
+place-of-requires c κs = search needs
+
+reg-of-requires : tie.Need-reg-of-requires
+reg-of-requires c κs = search needs
+
+jump-rk-requires : tie.Need-jump-rk-requires
+jump-rk-requires c κs = search needs
+
+emit-requires : tie.Need-emit-requires
+emit-requires c κs = search needs
+
+same-length-2 : tie.Need-same-length-2
+same-length-2 c = search needs
+
+same-length-3 : tie.Need-same-length-3
+same-length-3 c = search needs
+
+returns-2 : tie.Need-returns-2
+unfolding fusedSources
+returns-2 c = (
+  (λ t E own m.
+      then-place _ _ _ _ _ (c .before .before .before .before .before .before .before .before .before .before .before .before .store .ensures .0 _ _) (sym (c .before .before .before .before .before .before .before .before .before .is-refused .ensures) ∙ c .before .before .before .before .before .before .before .before .if1 .left)
+      (rw (← c .before .before .before .before .before .before .place-of .ensures, ← c .before .before .before .before .before .reg-of .ensures, ← c .before .before .before .before .jump-rk .ensures) (c .before .before .emit .ensures .0 _ _))),
+  (c .before .before .emit .ensures .1, c .before .before .before .before .before .before .before .before .before .before .before .before .store .ensures .1),
+)
+
+pub lower-fused-rk-spec : {M : Type 1} → statement M
+lower-fused-rk-spec =
+    tie.close
+    (tie.spec
+    store-requires
+    is-refused-requires
+    same-length
+    returns
+    place-of-requires
+    reg-of-requires
+    jump-rk-requires
+    emit-requires
+    same-length-2
+    same-length-3
+    returns-2)

@@ -1,0 +1,113 @@
+//! The port, by its C-callable functions. A slice is two parameters, pointer and length.
+
+use crate::tree::{Answer, Input, words};
+
+unsafe extern "C" {
+    fn sewurogi_lower(
+        nodes: *const u8,
+        nodes_length: usize,
+        root: u32,
+        mode: u32,
+        list: *const u8,
+        list_length: usize,
+        names: *const u8,
+        names_length: usize,
+        code: *mut u8,
+        code_length: usize,
+        constants: *mut u8,
+        constants_length: usize,
+        marks: *mut u8,
+        marks_length: usize,
+        result: *mut u8,
+        result_length: usize,
+    );
+
+    fn sewurogi_patch_jump(code: *mut u8, code_length: usize, count: u32, index: u32, offset: u32) -> u32;
+}
+
+/// What a call reads: three slices, the root and the mode.
+#[derive(Clone, Copy)]
+pub struct Asked<'a> {
+    pub nodes: &'a [u8],
+    pub root: u32,
+    pub mode: u32,
+    pub list: &'a [u8],
+    pub names: &'a [u8],
+}
+
+/// The eight numbers; the buffers are written in place.
+pub fn lower_into(asked: Asked, code: &mut [u8], constants: &mut [u8], marks: &mut [u8]) -> [u32; 8] {
+    let mut result = [0xEE; 32];
+    // SAFETY: each pointer and length is a slice's, the three buffers are borrowed alone, and `result` has its 32 bytes.
+    unsafe {
+        sewurogi_lower(
+            asked.nodes.as_ptr(),
+            asked.nodes.len(),
+            asked.root,
+            asked.mode,
+            asked.list.as_ptr(),
+            asked.list.len(),
+            asked.names.as_ptr(),
+            asked.names.len(),
+            code.as_mut_ptr(),
+            code.len(),
+            constants.as_mut_ptr(),
+            constants.len(),
+            marks.as_mut_ptr(),
+            marks.len(),
+            result.as_mut_ptr(),
+            result.len(),
+        );
+    }
+    words(&result).try_into().unwrap()
+}
+
+/// Bytes on both sides of a buffer that must stay.
+const GUARD: usize = 48;
+const GUARD_BYTE: u8 = 0x5A;
+
+/// A copy of a buffer between guards. Its start moves with the length, so that no alignment is relied on.
+struct Guarded {
+    bytes: Vec<u8>,
+    start: usize,
+    end: usize,
+}
+
+impl Guarded {
+    fn new(buffer: &[u8]) -> Guarded {
+        let start = GUARD + buffer.len() % 8;
+        let mut bytes = vec![GUARD_BYTE; start];
+        bytes.extend_from_slice(buffer);
+        let end = bytes.len();
+        bytes.resize(end + GUARD, GUARD_BYTE);
+        Guarded { bytes, start, end }
+    }
+
+    fn buffer(&mut self) -> &mut [u8] {
+        &mut self.bytes[self.start..self.end]
+    }
+
+    fn after(self) -> Vec<u8> {
+        let guards = [&self.bytes[..self.start], &self.bytes[self.end..]];
+        assert!(guards.concat().iter().all(|&byte| byte == GUARD_BYTE), "the port wrote outside a buffer");
+        self.bytes[self.start..self.end].to_vec()
+    }
+}
+
+pub fn lower(input: &Input) -> Answer {
+    let [mut code, mut constants, mut marks] = [&input.code, &input.constants, &input.marks].map(|b| Guarded::new(b));
+    let asked =
+        Asked { nodes: &input.nodes, root: input.root, mode: input.mode, list: &input.list, names: &input.names };
+    let result = lower_into(asked, code.buffer(), constants.buffer(), marks.buffer());
+    Answer { result, code: code.after(), constants: constants.after(), marks: marks.after() }
+}
+
+/// Patching: 0, and the offset word set, or 19.
+pub fn patch(code: &mut [u8], count: u32, index: u32, offset: u32) -> u32 {
+    let mut guarded = Guarded::new(code);
+    let buffer = guarded.buffer();
+    // SAFETY: pointer and length are those of a slice that is borrowed alone.
+    let number = unsafe { sewurogi_patch_jump(buffer.as_mut_ptr(), buffer.len(), count, index, offset) };
+    code.copy_from_slice(&guarded.after());
+    number
+}

@@ -1,0 +1,13 @@
+//! Every tree fits a normal thread's stack.
+
+use oracle::depth::{MOST_TAKEN, shapes};
+
+/// Measured first: a stack that is too small would end the test's process without a word on the shape.
+#[test]
+fn every_shape_fits() {
+    for shape in shapes() {
+        let used = shape.used();
+        assert!(used.bytes <= MOST_TAKEN, "{} bytes: {}", used.bytes, shape.name);
+        shape.runs();
+    }
+}
