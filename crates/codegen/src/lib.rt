@@ -21,9 +21,8 @@ use diagnostics::Refusal;
 use environment::RegisterSet;
 use lower_ast::Patched;
 use lower_ast::patch_arguments;
-use lower_expression::lower_compared;
+use lower_expression::lower_fused;
 use lower_expression::lower_materializing;
-use lower_expression::lower_test;
 use lowering::Dest;
 use lowering::State;
 use questions::check::Checked;
@@ -37,6 +36,7 @@ use steps::answer::place_of;
 use steps::answer::register_of;
 use steps::kinds::Condition;
 use steps::kinds::condition_of;
+use steps::single::emit_test;
 use steps::step::emit;
 use syntax::ast::node_at;
 
@@ -77,7 +77,7 @@ fn lower_jump_if(
             comparison,
             left,
             right,
-        } => lower_compared(
+        } => lower_fused(
             nodes,
             list,
             names,
@@ -92,18 +92,27 @@ fn lower_jump_if(
             left,
             right,
         ),
-        Condition::Tested => lower_test(
-            nodes,
-            list,
-            names,
-            code,
-            constants,
-            marks,
-            arity,
-            state,
-            node,
-            sense,
-        ),
+        Condition::Tested => {
+            let r = lower_materializing(
+                nodes,
+                list,
+                names,
+                code,
+                constants,
+                marks,
+                arity,
+                state,
+                node,
+                Dest::Any,
+            );
+            let a = r.answer;
+            if is_refused(a) {
+                return r;
+            }
+            let s = r.state;
+            let src = register_of(a);
+            emit_test(code, s, sense, src)
+        }
     }
 }
 

@@ -18,16 +18,17 @@ use Rattle.syntax.specs.declared.ast.Node.{Node}
 use Rattle.lowering.specs.declared.Dest.{Dest}
 use Rattle.lowering.specs.Tree.{Tree, node, spanStart, spanEnd}
 use Rattle.lowering.specs.Walk.{Made, Outcome, ends, stops, Walk, bind, ret, error}
-use Rattle.lowering.specs.Steps.{loadConstant, emit, store, mark}
+use Rattle.lowering.specs.Steps.{destination, loadConstant, emit, store, mark}
 use Rattle.lowering.specs.Lower.{Source, source, register, constant, nameOf, storeNamed, storeKeyed, lowerElse, lowerTail, lowerMaterializing, lowerArguments, lowerEntry, lowerEntries, lowerNode, lowerExpression, lowerJumpIfFalse, jumpNode}
 use Rattle.lowering.proofs.Checked.{Checked, Below, checked-below}
 use Rattle.lowering.proofs.Bound.{expression-at, jump-false-at}
 use Rattle.steps.specs.declared.answer.Answer.{Answer}
 use Rattle.steps.specs.declared.kinds.Condition.{Condition}
 use Rattle.steps.specs.Answers.{refused, operandOf, placeOf, heldBy, isRegister, registerOf, seen, answered, asRegister, setNamed}
-use Rattle.steps.specs.Kinds.{conditionOf}
+use Rattle.steps.specs.declared.kinds.Single.{Single}
+use Rattle.steps.specs.Kinds.{conditionOf, singleNode, singleEnd}
 use Rattle.steps.proofs.Chains as chains
-use Rattle.steps.proofs.Conditions.{ConditionBelow, condition-below, jumpBy, jump-by}
+use Rattle.steps.proofs.Conditions.{ConditionBelow, condition-below, jumpBy, jump-by, single-arm}
 
 module _ {B : Type 0} (gives : B → Answer) {refusal : Bool} where
   -- a step that gave: the rest, with what the program read off the answer
@@ -80,6 +81,12 @@ pub nested : {A B C : Type 0} (gives : C → Answer) (o : Outcome A) (k : A → 
 unfolding bind
 nested gives (ends x m) k l q = q
 nested gives (stops e m) k l q = q
+
+-- an arm with one operand
+pub single-of : (t : Tree) (E : ℕ → Dest → Walk Operand) (J : ℕ → Walk ℕ) (i : ℕ) (single : Single) (operand : ℕ) (dest : Dest) (m : Made) {r : Outcome Answer} →
+    answered Answer.Operand (bind (destination dest m) (λ d m₁. bind (lowerMaterializing (E operand) Dest.Any m₁) (λ src. singleEnd single d src))) ≡ r →
+    answered Answer.Operand (lowerNode t E J i (singleNode single operand) dest m) ≡ r
+single-of t E J i single operand dest m q = rw (single-arm t E J i single operand dest m) q
 
 -- the map's instruction
 pub created : {to : ℕ} (d : Register) (m : Made) {s : Outcome Answer} → to ≡ regOf d →

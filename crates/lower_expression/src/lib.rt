@@ -2,23 +2,22 @@
 // lowering the nodes that it names, which are lower. One function a kind. Each has one call in the cycle, and one result and one state, so that
 // the stack holds the deepest tree (docs/DECISIONS.md).
 ghost use mathlib.Core.Path.{_≡_};
-ghost use mathlib.Core.Option.{none, some};
+ghost use mathlib.Core.Option.{some};
 ghost use Prim.Native.Nat.{_<_};
 ghost use Rattle.words.specs.Words.{words};
 ghost use Rattle.syntax.specs.declared.ast.Node.{Node};
 ghost use Rattle.syntax.specs.Ast.{nodeAt};
 ghost use Rattle.lowering.specs.Tree.{treeOf};
 ghost use Rattle.lowering.specs.Walk.{made};
-ghost use Rattle.lowering.specs.Lower.{constant, nameOf, binarySources, lowerMaterializing, lowerEntry, tested, fused, lowerExpression, lowerJumpIfFalse};
+ghost use Rattle.lowering.specs.Lower.{constant, nameOf, binarySources, lowerMaterializing, lowerEntry, fused, lowerExpression, lowerJumpIfFalse};
 ghost use Rattle.lowering.proofs.Checked.{Below};
 ghost use Rattle.steps.specs.Answers.{seen, answered, asRegister};
+ghost use Rattle.steps.specs.Kinds.{singleNode};
 ghost use Rattle.lower_expression.specs.Ready.{Ready, EntryBelow, arm};
 use diagnostics::Refusal;
 use environment::Register;
 use lowering::Dest;
 use lowering::State;
-use operators::jump_if;
-use operators::unary;
 use runtime::instruction::Instruction;
 use runtime::operand::Operand;
 use runtime::operands::reg_of;
@@ -41,14 +40,16 @@ use steps::jump::lower_fused_rr;
 use steps::jump::patch_to_next;
 use steps::kinds::Condition;
 use steps::kinds::Named;
+use steps::kinds::Single;
 use steps::kinds::condition_of;
 use steps::kinds::name_of;
 use steps::mark::mark;
 use steps::name::error_at;
 use steps::name::lower_name;
-use steps::property::get_property;
 use steps::property::set_keyed;
 use steps::property::set_named;
+use steps::single::emit_test;
+use steps::single::finish_single;
 use steps::step::destination;
 use steps::step::emit;
 use steps::step::finish;
@@ -59,7 +60,6 @@ use syntax::ast::Node;
 use syntax::ast::node_at;
 use syntax::ops::BinaryOp;
 use syntax::ops::Comparison;
-use syntax::ops::UnaryOp;
 use words::word;
 
 // A node as an expression: its operand, which may be a constant that is not pooled yet.
@@ -140,11 +140,11 @@ pub fn lower_expression(
             arity,
             state,
             node,
-            operator,
+            Single::Operator(operator),
             operand,
             dest,
         ),
-        Node::LogicalNot(operand) => lower_not(
+        Node::LogicalNot(operand) => lower_unary(
             nodes,
             list,
             names,
@@ -154,6 +154,7 @@ pub fn lower_expression(
             arity,
             state,
             node,
+            Single::Not,
             operand,
             dest,
         ),
@@ -236,7 +237,7 @@ pub fn lower_expression(
             count,
             dest,
         ),
-        Node::PropertyAccess { object, property } => lower_property(
+        Node::PropertyAccess { object, property } => lower_unary(
             nodes,
             list,
             names,
@@ -246,8 +247,8 @@ pub fn lower_expression(
             arity,
             state,
             node,
+            Single::Property(property),
             object,
-            property,
             dest,
         ),
         Node::Map { first, count } => lower_map(
@@ -477,12 +478,12 @@ fn lower_unary(
     arity: u32,
     state: State,
     node: u32,
-    operator: UnaryOp,
+    single: Single,
     operand: u32,
     dest: Dest,
 ) -> Lowered
-    requires { ⌜ (Ready (now nodes) (now list) (now names) arity) × Below (treeOf (now nodes) (now list) (now names)) node (Node.Unary operator operand) ⌝ }
-    ensures { λ r. ⌜ answered Answer.Operand (arm (treeOf (now (nodes .entry)) (now (list .entry)) (now (names .entry))) node (Node.Unary operator operand) dest
+    requires { ⌜ (Ready (now nodes) (now list) (now names) arity) × (operand < node) ⌝ }
+    ensures { λ r. ⌜ answered Answer.Operand (arm (treeOf (now (nodes .entry)) (now (list .entry)) (now (names .entry))) node (singleNode single operand) dest
         (made (words (now (code .entry))) (words (now (constants .entry))) (words (now (marks .entry))) state))
         ≡ seen (made (words (now (code .exit))) (words (now (constants .exit))) (words (now (marks .exit))) (r .state)) (r .answer) ⌝ }
 {
@@ -514,122 +515,7 @@ fn lower_unary(
     let s2 = r.state;
     s = s2;
     let src = register_of(a2);
-    let to = reg_of(d);
-    let from = reg_of(src);
-    let instruction = unary(operator, to, from);
-    finish(code, s, instruction, d, src)
-}
-
-// The same for `not`.
-fn lower_not(
-    nodes: &[u8],
-    list: &[u8],
-    names: &[u8],
-    code: &mut [u8],
-    constants: &mut [u8],
-    marks: &mut [u8],
-    arity: u32,
-    state: State,
-    node: u32,
-    operand: u32,
-    dest: Dest,
-) -> Lowered
-    requires { ⌜ (Ready (now nodes) (now list) (now names) arity) × Below (treeOf (now nodes) (now list) (now names)) node (Node.LogicalNot operand) ⌝ }
-    ensures { λ r. ⌜ answered Answer.Operand (arm (treeOf (now (nodes .entry)) (now (list .entry)) (now (names .entry))) node (Node.LogicalNot operand) dest
-        (made (words (now (code .entry))) (words (now (constants .entry))) (words (now (marks .entry))) state))
-        ≡ seen (made (words (now (code .exit))) (words (now (constants .exit))) (words (now (marks .exit))) (r .state)) (r .answer) ⌝ }
-{
-    let mut s = state;
-    let mut r = destination(s, dest);
-    let a1 = r.answer;
-    if is_refused(a1) {
-        return r;
-    }
-    let s1 = r.state;
-    s = s1;
-    let d = register_of(a1);
-    r = lower_materializing(
-        nodes,
-        list,
-        names,
-        code,
-        constants,
-        marks,
-        arity,
-        s,
-        operand,
-        Dest::Any,
-    );
-    let a2 = r.answer;
-    if is_refused(a2) {
-        return r;
-    }
-    let s2 = r.state;
-    s = s2;
-    let src = register_of(a2);
-    let to = reg_of(d);
-    let from = reg_of(src);
-    finish(
-        code,
-        s,
-        Instruction::Not {
-            dest: to,
-            src: from,
-        },
-        d,
-        src,
-    )
-}
-
-// Destination, object, key pooled.
-fn lower_property(
-    nodes: &[u8],
-    list: &[u8],
-    names: &[u8],
-    code: &mut [u8],
-    constants: &mut [u8],
-    marks: &mut [u8],
-    arity: u32,
-    state: State,
-    node: u32,
-    object: u32,
-    property: u32,
-    dest: Dest,
-) -> Lowered
-    requires { ⌜ (Ready (now nodes) (now list) (now names) arity) × Below (treeOf (now nodes) (now list) (now names)) node (Node.PropertyAccess object property) ⌝ }
-    ensures { λ r. ⌜ answered Answer.Operand (arm (treeOf (now (nodes .entry)) (now (list .entry)) (now (names .entry))) node (Node.PropertyAccess object property) dest
-        (made (words (now (code .entry))) (words (now (constants .entry))) (words (now (marks .entry))) state))
-        ≡ seen (made (words (now (code .exit))) (words (now (constants .exit))) (words (now (marks .exit))) (r .state)) (r .answer) ⌝ }
-{
-    let mut s = state;
-    let mut r = destination(s, dest);
-    let a1 = r.answer;
-    if is_refused(a1) {
-        return r;
-    }
-    let s1 = r.state;
-    s = s1;
-    let d = register_of(a1);
-    r = lower_materializing(
-        nodes,
-        list,
-        names,
-        code,
-        constants,
-        marks,
-        arity,
-        s,
-        object,
-        Dest::Any,
-    );
-    let a2 = r.answer;
-    if is_refused(a2) {
-        return r;
-    }
-    let s2 = r.state;
-    s = s2;
-    let src = register_of(a2);
-    get_property(code, constants, s, d, src, property)
+    finish_single(code, constants, s, d, src, single)
 }
 
 // Left into the destination, jump, right into the same.
@@ -1122,7 +1008,7 @@ fn lower_map(
     Lowered { state: s, answer }
 }
 
-// One entry, by whether its key is a name.
+// One entry. A name key is not looked up if it has a value, and is pooled after it; any other key is lowered before its value.
 fn lower_entry(
     nodes: &[u8],
     list: &[u8],
@@ -1142,170 +1028,99 @@ fn lower_entry(
         (made (words (now (code .entry))) (words (now (constants .entry))) (words (now (marks .entry))) state))
         ≡ seen (made (words (now (code .exit))) (words (now (constants .exit))) (words (now (marks .exit))) (r .state)) (r .answer) ⌝ }
 {
+    let mut s = state;
     let kind = node_at(nodes, key);
     let name = name_of(kind);
     match name {
-        Named::By(symbol) => lower_named(
-            nodes,
-            list,
-            names,
-            code,
-            constants,
-            marks,
-            arity,
-            state,
-            node,
-            d,
-            key,
-            value,
-            symbol,
-        ),
-        Named::Nothing => lower_keyed(
-            nodes,
-            list,
-            names,
-            code,
-            constants,
-            marks,
-            arity,
-            state,
-            node,
-            d,
-            key,
-            value,
-        ),
-    }
-}
-
-// A name key: with a value it is not looked up; its name is pooled after the value is lowered.
-fn lower_named(
-    nodes: &[u8],
-    list: &[u8],
-    names: &[u8],
-    code: &mut [u8],
-    constants: &mut [u8],
-    marks: &mut [u8],
-    arity: u32,
-    state: State,
-    node: u32,
-    d: Register,
-    key: u32,
-    value: u32,
-    name: u32,
-) -> Lowered
-    requires { ⌜ (Ready (now nodes) (now list) (now names) arity) × EntryBelow node key value ⌝ }
-    ensures { λ r. ⌜ answered Answer.Place (lowerEntry (treeOf (now (nodes .entry)) (now (list .entry)) (now (names .entry))) (lowerExpression (treeOf (now (nodes .entry)) (now (list .entry)) (now (names .entry)))) d key value (some name)
-        (made (words (now (code .entry))) (words (now (constants .entry))) (words (now (marks .entry))) state))
-        ≡ seen (made (words (now (code .exit))) (words (now (constants .exit))) (words (now (marks .exit))) (r .state)) (r .answer) ⌝ }
-{
-    let mut s = state;
-    if value == ABSENT {
-        let looked = lower_materializing(
-            nodes,
-            list,
-            names,
-            code,
-            constants,
-            marks,
-            arity,
-            s,
-            key,
-            Dest::Any,
-        );
-        let a1 = looked.answer;
-        if is_refused(a1) {
-            return looked;
+        Named::By(symbol) => {
+            if value == ABSENT {
+                let mut r = lower_materializing(
+                    nodes,
+                    list,
+                    names,
+                    code,
+                    constants,
+                    marks,
+                    arity,
+                    s,
+                    key,
+                    Dest::Any,
+                );
+                let a1 = r.answer;
+                if is_refused(a1) {
+                    return r;
+                }
+                let s1 = r.state;
+                let src = operand_of(a1);
+                return set_named(code, constants, s1, d, symbol, src);
+            }
+            let mut r = lower_expression(
+                nodes,
+                list,
+                names,
+                code,
+                constants,
+                marks,
+                arity,
+                s,
+                value,
+                Dest::Any,
+            );
+            let a2 = r.answer;
+            if is_refused(a2) {
+                return r;
+            }
+            let s2 = r.state;
+            s = s2;
+            let src = operand_of(a2);
+            set_named(code, constants, s, d, symbol, src)
         }
-        let s1 = looked.state;
-        let src = operand_of(a1);
-        return set_named(code, constants, s1, d, name, src);
+        Named::Nothing => {
+            if value == ABSENT {
+                let answer = error_at(nodes, Refusal::Key, key);
+                return Lowered { state, answer };
+            }
+            let mut r = lower_expression(
+                nodes,
+                list,
+                names,
+                code,
+                constants,
+                marks,
+                arity,
+                s,
+                key,
+                Dest::Any,
+            );
+            let a3 = r.answer;
+            if is_refused(a3) {
+                return r;
+            }
+            let s3 = r.state;
+            s = s3;
+            let k = operand_of(a3);
+            r = lower_expression(
+                nodes,
+                list,
+                names,
+                code,
+                constants,
+                marks,
+                arity,
+                s,
+                value,
+                Dest::Any,
+            );
+            let a4 = r.answer;
+            if is_refused(a4) {
+                return r;
+            }
+            let s4 = r.state;
+            s = s4;
+            let v = operand_of(a4);
+            set_keyed(code, constants, s, d, k, v)
+        }
     }
-    let mut r = lower_expression(
-        nodes,
-        list,
-        names,
-        code,
-        constants,
-        marks,
-        arity,
-        s,
-        value,
-        Dest::Any,
-    );
-    let a2 = r.answer;
-    if is_refused(a2) {
-        return r;
-    }
-    let s2 = r.state;
-    s = s2;
-    let src = operand_of(a2);
-    set_named(code, constants, s, d, name, src)
-}
-
-// Any other key is lowered before its value.
-fn lower_keyed(
-    nodes: &[u8],
-    list: &[u8],
-    names: &[u8],
-    code: &mut [u8],
-    constants: &mut [u8],
-    marks: &mut [u8],
-    arity: u32,
-    state: State,
-    node: u32,
-    d: Register,
-    key: u32,
-    value: u32,
-) -> Lowered
-    requires { ⌜ (Ready (now nodes) (now list) (now names) arity) × EntryBelow node key value ⌝ }
-    ensures { λ r. ⌜ answered Answer.Place (lowerEntry (treeOf (now (nodes .entry)) (now (list .entry)) (now (names .entry))) (lowerExpression (treeOf (now (nodes .entry)) (now (list .entry)) (now (names .entry)))) d key value none
-        (made (words (now (code .entry))) (words (now (constants .entry))) (words (now (marks .entry))) state))
-        ≡ seen (made (words (now (code .exit))) (words (now (constants .exit))) (words (now (marks .exit))) (r .state)) (r .answer) ⌝ }
-{
-    let mut s = state;
-    if value == ABSENT {
-        let answer = error_at(nodes, Refusal::Key, key);
-        return Lowered { state, answer };
-    }
-    let mut r = lower_expression(
-        nodes,
-        list,
-        names,
-        code,
-        constants,
-        marks,
-        arity,
-        s,
-        key,
-        Dest::Any,
-    );
-    let a1 = r.answer;
-    if is_refused(a1) {
-        return r;
-    }
-    let s1 = r.state;
-    s = s1;
-    let k = operand_of(a1);
-    r = lower_expression(
-        nodes,
-        list,
-        names,
-        code,
-        constants,
-        marks,
-        arity,
-        s,
-        value,
-        Dest::Any,
-    );
-    let a2 = r.answer;
-    if is_refused(a2) {
-        return r;
-    }
-    let s2 = r.state;
-    s = s2;
-    let v = operand_of(a2);
-    set_keyed(code, constants, s, d, k, v)
 }
 
 // A node as a condition: the place of the jump that is taken where it is false.
@@ -1332,7 +1147,7 @@ pub fn lower_jump_if_false(
             comparison,
             left,
             right,
-        } => lower_compared(
+        } => lower_fused(
             nodes,
             list,
             names,
@@ -1347,23 +1162,32 @@ pub fn lower_jump_if_false(
             left,
             right,
         ),
-        Condition::Tested => lower_test(
-            nodes,
-            list,
-            names,
-            code,
-            constants,
-            marks,
-            arity,
-            state,
-            node,
-            false,
-        ),
+        Condition::Tested => {
+            let mut r = lower_materializing(
+                nodes,
+                list,
+                names,
+                code,
+                constants,
+                marks,
+                arity,
+                state,
+                node,
+                Dest::Any,
+            );
+            let a1 = r.answer;
+            if is_refused(a1) {
+                return r;
+            }
+            let s1 = r.state;
+            let src = register_of(a1);
+            emit_test(code, s1, false, src)
+        }
     }
 }
 
 // Left, right, constants pooled, one fused jump; two literals are tested like anything else.
-pub fn lower_compared(
+pub fn lower_fused(
     nodes: &[u8],
     list: &[u8],
     names: &[u8],
@@ -1434,7 +1258,7 @@ pub fn lower_compared(
         let src2 = held_by(y);
         return lower_fused_kr(code, constants, s, sense, comparison, x, src2);
     }
-    lower_test(
+    r = lower_materializing(
         nodes,
         list,
         names,
@@ -1444,47 +1268,14 @@ pub fn lower_compared(
         arity,
         s,
         node,
-        sense,
-    )
-}
-
-// A condition in a register, tested.
-pub fn lower_test(
-    nodes: &[u8],
-    list: &[u8],
-    names: &[u8],
-    code: &mut [u8],
-    constants: &mut [u8],
-    marks: &mut [u8],
-    arity: u32,
-    state: State,
-    node: u32,
-    sense: bool,
-) -> Lowered
-    requires { ⌜ Ready (now nodes) (now list) (now names) arity ⌝ }
-    ensures { λ r. ⌜ answered Answer.Place (tested (treeOf (now (nodes .entry)) (now (list .entry)) (now (names .entry))) (lowerExpression (treeOf (now (nodes .entry)) (now (list .entry)) (now (names .entry)))) sense (lowerExpression (treeOf (now (nodes .entry)) (now (list .entry)) (now (names .entry))) node)
-        (made (words (now (code .entry))) (words (now (constants .entry))) (words (now (marks .entry))) state))
-        ≡ seen (made (words (now (code .exit))) (words (now (constants .exit))) (words (now (marks .exit))) (r .state)) (r .answer) ⌝ }
-{
-    let r = lower_materializing(
-        nodes,
-        list,
-        names,
-        code,
-        constants,
-        marks,
-        arity,
-        state,
-        node,
         Dest::Any,
     );
-    let a = r.answer;
-    if is_refused(a) {
+    let a3 = r.answer;
+    if is_refused(a3) {
         return r;
     }
-    let s = r.state;
-    let src = register_of(a);
-    let from = reg_of(src);
-    let instruction = jump_if(sense, from);
-    emit(code, s, instruction)
+    let s3 = r.state;
+    s = s3;
+    let src = register_of(a3);
+    emit_test(code, s, sense, src)
 }

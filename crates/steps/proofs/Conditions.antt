@@ -1,4 +1,4 @@
--- How a node is lowered as a condition, by what the program reads off it. Assumes nothing.
+-- How a node is lowered as a condition, by what the program reads off it, and the arms with one operand. Assumes nothing.
 use Prim.Native.Nat.{ℕ, _<_}
 use mathlib.Core.Path.{_≡_, refl}
 use mathlib.Core.Bool.{Bool}
@@ -8,12 +8,14 @@ use Rattle.syntax.specs.declared.ops.Comparison.{Comparison}
 use Rattle.runtime.specs.declared.operand.Operand.{Operand}
 use Rattle.lowering.specs.declared.Dest.{Dest}
 use Rattle.lowering.specs.Tree.{Tree}
-use Rattle.lowering.specs.Walk.{Walk}
+use Rattle.lowering.specs.Walk.{Made, Walk, bind}
+use Rattle.lowering.specs.Steps.{destination}
 use Rattle.lowering.specs.Operators.{comparison}
-use Rattle.lowering.specs.Lower.{tested, fused, jumpNode}
+use Rattle.lowering.specs.Lower.{lowerMaterializing, lowerNode, tested, fused, jumpNode}
 use Rattle.lowering.proofs.Checked.{Below}
 use Rattle.steps.specs.declared.kinds.Condition.{Condition}
-use Rattle.steps.specs.Kinds.{fusable, conditionOf}
+use Rattle.steps.specs.declared.kinds.Single.{Single}
+use Rattle.steps.specs.Kinds.{fusable, conditionOf, singleNode, singleEnd}
 
 -- the nodes of a comparison are lower
 abbrev pub ConditionBelow : ℕ → Condition → Type 0
@@ -70,3 +72,12 @@ module _ (t : Tree) where
     jump-by (Node.FunctionCall callee first count) = refl
     jump-by (Node.PropertyAccess object property) = refl
     jump-by (Node.Map first count) = refl
+
+  -- an arm with one operand: destination, operand, and its end
+  pub single-arm : (E : ℕ → Dest → Walk Operand) (J : ℕ → Walk ℕ) (i : ℕ) (single : Single) (operand : ℕ) (dest : Dest) (m : Made) →
+      lowerNode t E J i (singleNode single operand) dest m
+      ≡ bind (destination dest m) (λ d m₁. bind (lowerMaterializing (E operand) Dest.Any m₁) (λ src. singleEnd single d src))
+  unfolding lowerNode singleNode singleEnd
+  single-arm E J i (Single.Operator operator) operand dest m = refl
+  single-arm E J i Single.Not operand dest m = refl
+  single-arm E J i (Single.Property property) operand dest m = refl

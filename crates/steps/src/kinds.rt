@@ -8,6 +8,7 @@ use operators::comparison;
 use syntax::ast::Node;
 use syntax::ops::BinaryOp;
 use syntax::ops::Comparison;
+use syntax::ops::UnaryOp;
 
 // The name that a node is, if it is one.
 pub enum Named {
@@ -117,4 +118,11 @@ pub fn condition_of(node: Node) -> Condition
         } => Condition::Tested,
         Node::Map { first: _, count: _ } => Condition::Tested,
     }
+}
+
+// What is done with one operand: an operator, `not`, or a property.
+pub enum Single {
+    Operator(UnaryOp),
+    Not,
+    Property(u32),
 }

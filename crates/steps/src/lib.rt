@@ -6,4 +6,5 @@ pub mod kinds;
 pub mod mark;
 pub mod name;
 pub mod property;
+pub mod single;
 pub mod step;

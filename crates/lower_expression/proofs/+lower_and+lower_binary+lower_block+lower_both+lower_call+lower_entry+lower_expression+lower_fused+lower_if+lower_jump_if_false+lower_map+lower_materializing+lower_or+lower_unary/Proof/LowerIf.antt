@@ -10,7 +10,7 @@ use Rattle.steps.specs.Answers.{seen, answered, asRegister}
 use Rattle.steps.proofs.Chains.{then-done}
 use Rattle.lower_expression.proofs.Laws.{then-register, then-place, stop, else-none, else-some}
 use Rattle.lower_expression.proofs.lower_if.Reads as lower-if
-use Rattle.lower_expression.proofs.+lower_and+lower_binary+lower_block+lower_both+lower_call+lower_compared+lower_entry+lower_expression+lower_if+lower_jump_if_false+lower_keyed+lower_map+lower_materializing+lower_named+lower_not+lower_or+lower_property+lower_test+lower_unary.Lts-lower_if as lower-if-lts
+use Rattle.lower_expression.proofs.+lower_and+lower_binary+lower_block+lower_both+lower_call+lower_entry+lower_expression+lower_fused+lower_if+lower_jump_if_false+lower_map+lower_materializing+lower_or+lower_unary.Lts-lower_if as lower-if-lts
 use Rattle.lower_expression.proofs.lower_jump_if_false.Reads as lower-jump-if-false
 use Rattle.lower_expression.proofs.lower_materializing.Reads as lower-materializing
 use Rattle.steps.proofs.answer.is_refused.Reads as is-refused-reads
@@ -20,7 +20,7 @@ use Rattle.steps.proofs.jump.patch_to_next.Reads as patch-to-next-reads
 use Rattle.steps.proofs.name.error_at.Reads as error-at-reads
 use Rattle.steps.proofs.step.destination.Reads as destination-reads
 use Rattle.steps.proofs.step.emit.Reads as emit-reads
-use Rattle.lower_expression.proofs.+lower_and+lower_binary+lower_block+lower_both+lower_call+lower_compared+lower_entry+lower_expression+lower_if+lower_jump_if_false+lower_keyed+lower_map+lower_materializing+lower_named+lower_not+lower_or+lower_property+lower_test+lower_unary.Proof.Measures.{lower-if-at, lower-jump-if-false-below, lower-materializing-below}
+use Rattle.lower_expression.proofs.+lower_and+lower_binary+lower_block+lower_both+lower_call+lower_entry+lower_expression+lower_fused+lower_if+lower_jump_if_false+lower_map+lower_materializing+lower_or+lower_unary.Proof.Measures.{lower-if-at, lower-jump-if-false-below, lower-materializing-below}
 
 abbrev pub calls : ℕ → lower-if-lts.Claims
 calls t = (lower-jump-if-false-below t, lower-jump-if-false.Post, is-refused-reads.Asked, is-refused-reads.Learnt, place-of-reads.Asked, place-of-reads.Learnt, destination-reads.Asked, destination-reads.Learnt, register-of-reads.Asked, register-of-reads.Learnt, lower-materializing-below t, lower-materializing.Post, emit-reads.Asked, emit-reads.Learnt, patch-to-next-reads.Asked, patch-to-next-reads.Learnt, error-at-reads.Asked, error-at-reads.Learnt)

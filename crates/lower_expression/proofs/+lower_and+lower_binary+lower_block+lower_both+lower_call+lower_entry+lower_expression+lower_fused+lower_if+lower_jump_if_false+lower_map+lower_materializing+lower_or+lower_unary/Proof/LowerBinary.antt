@@ -9,7 +9,7 @@ use Rattle.steps.specs.declared.answer.Answer.{Answer}
 use Rattle.steps.specs.Answers.{asRegister}
 use Rattle.lower_expression.proofs.Laws.{then-operand, then-register, stop, in-register, in-pool}
 use Rattle.lower_expression.proofs.lower_binary.Reads as lower-binary
-use Rattle.lower_expression.proofs.+lower_and+lower_binary+lower_block+lower_both+lower_call+lower_compared+lower_entry+lower_expression+lower_if+lower_jump_if_false+lower_keyed+lower_map+lower_materializing+lower_named+lower_not+lower_or+lower_property+lower_test+lower_unary.Lts-lower_binary as lower-binary-lts
+use Rattle.lower_expression.proofs.+lower_and+lower_binary+lower_block+lower_both+lower_call+lower_entry+lower_expression+lower_fused+lower_if+lower_jump_if_false+lower_map+lower_materializing+lower_or+lower_unary.Lts-lower_binary as lower-binary-lts
 use Rattle.lower_expression.proofs.lower_both.Reads as lower-both
 use Rattle.lower_expression.proofs.lower_expression.Reads as lower-expression
 use Rattle.steps.proofs.answer.held_by.Reads as held-by-reads
@@ -21,7 +21,7 @@ use Rattle.steps.proofs.binary.lower_binary_kr.Reads as lower-binary-kr-reads
 use Rattle.steps.proofs.binary.lower_binary_rk.Reads as lower-binary-rk-reads
 use Rattle.steps.proofs.binary.lower_binary_rr.Reads as lower-binary-rr-reads
 use Rattle.steps.proofs.step.destination.Reads as destination-reads
-use Rattle.lower_expression.proofs.+lower_and+lower_binary+lower_block+lower_both+lower_call+lower_compared+lower_entry+lower_expression+lower_if+lower_jump_if_false+lower_keyed+lower_map+lower_materializing+lower_named+lower_not+lower_or+lower_property+lower_test+lower_unary.Proof.Measures.{lower-binary-at, lower-both-below, lower-expression-below}
+use Rattle.lower_expression.proofs.+lower_and+lower_binary+lower_block+lower_both+lower_call+lower_entry+lower_expression+lower_fused+lower_if+lower_jump_if_false+lower_map+lower_materializing+lower_or+lower_unary.Proof.Measures.{lower-binary-at, lower-both-below, lower-expression-below}
 
 abbrev pub calls : ℕ → lower-binary-lts.Claims
 calls t = (destination-reads.Asked, destination-reads.Learnt, is-refused-reads.Asked, is-refused-reads.Learnt, register-of-reads.Asked, register-of-reads.Learnt, lower-expression-below t, lower-expression.Post, operand-of-reads.Asked, operand-of-reads.Learnt, is-register-reads.Asked, is-register-reads.Learnt, held-by-reads.Asked, held-by-reads.Learnt, lower-binary-rr-reads.Asked, lower-binary-rr-reads.Learnt, lower-binary-rk-reads.Asked, lower-binary-rk-reads.Learnt, lower-binary-kr-reads.Asked, lower-binary-kr-reads.Learnt, lower-both-below t, lower-both.Post)

@@ -7,14 +7,14 @@ use Rattle.steps.specs.Answers.{asRegister}
 use Rattle.steps.proofs.Chains.{operand-after}
 use Rattle.lower_expression.proofs.Laws.{then-register, stop, in-register, tail-none, tail-some}
 use Rattle.lower_expression.proofs.lower_block.Reads as lower-block
-use Rattle.lower_expression.proofs.+lower_and+lower_binary+lower_block+lower_both+lower_call+lower_compared+lower_entry+lower_expression+lower_if+lower_jump_if_false+lower_keyed+lower_map+lower_materializing+lower_named+lower_not+lower_or+lower_property+lower_test+lower_unary.Lts-lower_block as lower-block-lts
+use Rattle.lower_expression.proofs.+lower_and+lower_binary+lower_block+lower_both+lower_call+lower_entry+lower_expression+lower_fused+lower_if+lower_jump_if_false+lower_map+lower_materializing+lower_or+lower_unary.Lts-lower_block as lower-block-lts
 use Rattle.lower_expression.proofs.lower_materializing.Reads as lower-materializing
 use Rattle.steps.proofs.answer.in_register.Reads as in-register-reads
 use Rattle.steps.proofs.answer.is_refused.Reads as is-refused-reads
 use Rattle.steps.proofs.answer.register_of.Reads as register-of-reads
 use Rattle.steps.proofs.step.destination.Reads as destination-reads
 use Rattle.steps.proofs.step.load_constant.Reads as load-constant-reads
-use Rattle.lower_expression.proofs.+lower_and+lower_binary+lower_block+lower_both+lower_call+lower_compared+lower_entry+lower_expression+lower_if+lower_jump_if_false+lower_keyed+lower_map+lower_materializing+lower_named+lower_not+lower_or+lower_property+lower_test+lower_unary.Proof.Measures.{lower-block-at, lower-materializing-below}
+use Rattle.lower_expression.proofs.+lower_and+lower_binary+lower_block+lower_both+lower_call+lower_entry+lower_expression+lower_fused+lower_if+lower_jump_if_false+lower_map+lower_materializing+lower_or+lower_unary.Proof.Measures.{lower-block-at, lower-materializing-below}
 
 abbrev pub calls : ℕ → lower-block-lts.Claims
 calls t = (destination-reads.Asked, destination-reads.Learnt, is-refused-reads.Asked, is-refused-reads.Learnt, register-of-reads.Asked, register-of-reads.Learnt, load-constant-reads.Asked, load-constant-reads.Learnt, in-register-reads.Asked, in-register-reads.Learnt, lower-materializing-below t, lower-materializing.Post)

@@ -9,11 +9,11 @@ use Rattle.steps.specs.declared.answer.Answer.{Answer}
 use Rattle.lower_expression.proofs.Laws.{then-operand, stop}
 use Rattle.lower_expression.proofs.lower_expression.Reads as lower-expression
 use Rattle.lower_expression.proofs.lower_materializing.Reads as lower-materializing
-use Rattle.lower_expression.proofs.+lower_and+lower_binary+lower_block+lower_both+lower_call+lower_compared+lower_entry+lower_expression+lower_if+lower_jump_if_false+lower_keyed+lower_map+lower_materializing+lower_named+lower_not+lower_or+lower_property+lower_test+lower_unary.Lts-lower_materializing as lower-materializing-lts
+use Rattle.lower_expression.proofs.+lower_and+lower_binary+lower_block+lower_both+lower_call+lower_entry+lower_expression+lower_fused+lower_if+lower_jump_if_false+lower_map+lower_materializing+lower_or+lower_unary.Lts-lower_materializing as lower-materializing-lts
 use Rattle.steps.proofs.answer.is_refused.Reads as is-refused-reads
 use Rattle.steps.proofs.answer.operand_of.Reads as operand-of-reads
 use Rattle.steps.proofs.step.materialized.Reads as materialized-reads
-use Rattle.lower_expression.proofs.+lower_and+lower_binary+lower_block+lower_both+lower_call+lower_compared+lower_entry+lower_expression+lower_if+lower_jump_if_false+lower_keyed+lower_map+lower_materializing+lower_named+lower_not+lower_or+lower_property+lower_test+lower_unary.Proof.Measures.{lower-expression-below, lower-materializing-at}
+use Rattle.lower_expression.proofs.+lower_and+lower_binary+lower_block+lower_both+lower_call+lower_entry+lower_expression+lower_fused+lower_if+lower_jump_if_false+lower_map+lower_materializing+lower_or+lower_unary.Proof.Measures.{lower-expression-below, lower-materializing-at}
 
 abbrev pub calls : ℕ → lower-materializing-lts.Claims
 calls t = (lower-expression-below t, lower-expression.Post, is-refused-reads.Asked, is-refused-reads.Learnt, operand-of-reads.Asked, operand-of-reads.Learnt, materialized-reads.Asked, materialized-reads.Learnt)

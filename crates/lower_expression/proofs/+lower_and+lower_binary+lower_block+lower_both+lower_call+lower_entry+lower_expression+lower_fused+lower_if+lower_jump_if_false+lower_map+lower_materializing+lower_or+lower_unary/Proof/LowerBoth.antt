@@ -9,12 +9,12 @@ use Rattle.lowering.specs.Lower.{binarySources, lowerExpression}
 use Rattle.steps.specs.Answers.{asRegister}
 use Rattle.lower_expression.proofs.Laws.{then-register, stop}
 use Rattle.lower_expression.proofs.lower_both.Reads as lower-both
-use Rattle.lower_expression.proofs.+lower_and+lower_binary+lower_block+lower_both+lower_call+lower_compared+lower_entry+lower_expression+lower_if+lower_jump_if_false+lower_keyed+lower_map+lower_materializing+lower_named+lower_not+lower_or+lower_property+lower_test+lower_unary.Lts-lower_both as lower-both-lts
+use Rattle.lower_expression.proofs.+lower_and+lower_binary+lower_block+lower_both+lower_call+lower_entry+lower_expression+lower_fused+lower_if+lower_jump_if_false+lower_map+lower_materializing+lower_or+lower_unary.Lts-lower_both as lower-both-lts
 use Rattle.lower_expression.proofs.lower_materializing.Reads as lower-materializing
 use Rattle.steps.proofs.answer.is_refused.Reads as is-refused-reads
 use Rattle.steps.proofs.answer.register_of.Reads as register-of-reads
 use Rattle.steps.proofs.binary.lower_binary_rr.Reads as lower-binary-rr-reads
-use Rattle.lower_expression.proofs.+lower_and+lower_binary+lower_block+lower_both+lower_call+lower_compared+lower_entry+lower_expression+lower_if+lower_jump_if_false+lower_keyed+lower_map+lower_materializing+lower_named+lower_not+lower_or+lower_property+lower_test+lower_unary.Proof.Measures.{lower-both-at, lower-materializing-below}
+use Rattle.lower_expression.proofs.+lower_and+lower_binary+lower_block+lower_both+lower_call+lower_entry+lower_expression+lower_fused+lower_if+lower_jump_if_false+lower_map+lower_materializing+lower_or+lower_unary.Proof.Measures.{lower-both-at, lower-materializing-below}
 
 abbrev pub calls : ℕ → lower-both-lts.Claims
 calls t = (lower-materializing-below t, lower-materializing.Post, is-refused-reads.Asked, is-refused-reads.Learnt, register-of-reads.Asked, register-of-reads.Learnt, lower-binary-rr-reads.Asked, lower-binary-rr-reads.Learnt)

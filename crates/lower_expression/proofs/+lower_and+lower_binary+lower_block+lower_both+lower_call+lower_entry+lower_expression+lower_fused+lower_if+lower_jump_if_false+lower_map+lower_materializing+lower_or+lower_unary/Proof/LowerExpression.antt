@@ -5,26 +5,25 @@ use mathlib.Core.Path.{refl}
 use borrow.Author.Needs.{needs}
 use Rattle.lowering.specs.Lower.{lowerNode}
 use Rattle.steps.specs.Answers.{seen, answered}
+use Rattle.steps.specs.Kinds.{singleNode}
 use Rattle.lower_expression.proofs.Laws.{below-of, expression-of}
 use Rattle.lower_expression.proofs.lower_and.Reads as lower-and
 use Rattle.lower_expression.proofs.lower_binary.Reads as lower-binary
 use Rattle.lower_expression.proofs.lower_block.Reads as lower-block
 use Rattle.lower_expression.proofs.lower_call.Reads as lower-call
 use Rattle.lower_expression.proofs.lower_expression.Reads as lower-expression
-use Rattle.lower_expression.proofs.+lower_and+lower_binary+lower_block+lower_both+lower_call+lower_compared+lower_entry+lower_expression+lower_if+lower_jump_if_false+lower_keyed+lower_map+lower_materializing+lower_named+lower_not+lower_or+lower_property+lower_test+lower_unary.Lts-lower_expression as lower-expression-lts
+use Rattle.lower_expression.proofs.+lower_and+lower_binary+lower_block+lower_both+lower_call+lower_entry+lower_expression+lower_fused+lower_if+lower_jump_if_false+lower_map+lower_materializing+lower_or+lower_unary.Lts-lower_expression as lower-expression-lts
 use Rattle.lower_expression.proofs.lower_if.Reads as lower-if
 use Rattle.lower_expression.proofs.lower_map.Reads as lower-map
-use Rattle.lower_expression.proofs.lower_not.Reads as lower-not
 use Rattle.lower_expression.proofs.lower_or.Reads as lower-or
-use Rattle.lower_expression.proofs.lower_property.Reads as lower-property
 use Rattle.lower_expression.proofs.lower_unary.Reads as lower-unary
 use Rattle.runtime.proofs.value.number.Reads as number-reads
 use Rattle.steps.proofs.name.lower_name.Reads as lower-name-reads
 use Rattle.syntax.proofs.ast.node_at.Reads as node-at-reads
-use Rattle.lower_expression.proofs.+lower_and+lower_binary+lower_block+lower_both+lower_call+lower_compared+lower_entry+lower_expression+lower_if+lower_jump_if_false+lower_keyed+lower_map+lower_materializing+lower_named+lower_not+lower_or+lower_property+lower_test+lower_unary.Proof.Measures.{lower-and-below, lower-binary-below, lower-block-below, lower-call-below, lower-expression-at, lower-if-below, lower-map-below, lower-not-below, lower-or-below, lower-property-below, lower-unary-below}
+use Rattle.lower_expression.proofs.+lower_and+lower_binary+lower_block+lower_both+lower_call+lower_entry+lower_expression+lower_fused+lower_if+lower_jump_if_false+lower_map+lower_materializing+lower_or+lower_unary.Proof.Measures.{lower-and-below, lower-binary-below, lower-block-below, lower-call-below, lower-expression-at, lower-if-below, lower-map-below, lower-or-below, lower-unary-below}
 
 abbrev pub calls : ℕ → lower-expression-lts.Claims
-calls t = (node-at-reads.Asked, node-at-reads.Learnt, number-reads.Asked, number-reads.Learnt, lower-name-reads.Asked, lower-name-reads.Learnt, lower-binary-below t, lower-binary.Post, lower-unary-below t, lower-unary.Post, lower-not-below t, lower-not.Post, lower-and-below t, lower-and.Post, lower-or-below t, lower-or.Post, lower-if-below t, lower-if.Post, lower-block-below t, lower-block.Post, lower-call-below t, lower-call.Post, lower-property-below t, lower-property.Post, lower-map-below t, lower-map.Post)
+calls t = (node-at-reads.Asked, node-at-reads.Learnt, number-reads.Asked, number-reads.Learnt, lower-name-reads.Asked, lower-name-reads.Learnt, lower-binary-below t, lower-binary.Post, lower-unary-below t, lower-unary.Post, lower-and-below t, lower-and.Post, lower-or-below t, lower-or.Post, lower-if-below t, lower-if.Post, lower-block-below t, lower-block.Post, lower-call-below t, lower-call.Post, lower-map-below t, lower-map.Post)
 
 lower-binary-requires : (t : ℕ) → lower-expression-lts.Need-lower-binary-requires (calls t) (lower-expression-at t) lower-expression.Post
 lower-binary-requires t c κs = (omega (arith, c .before .before .before .before .before .before .before .before .before .before .before .before .before .pre .0), (c .before .before .before .before .before .before .before .before .before .before .before .before .before .pre .1, below-of (c .before .before .before .before .before .before .before .before .before .before .before .before .before .pre .1 .0) _ (c .before .before .before .before .before .before .node-at .ensures) (c .before .before .before .before .kind5 .given .1)))
@@ -32,8 +31,8 @@ lower-binary-requires t c κs = (omega (arith, c .before .before .before .before
 lower-unary-requires : (t : ℕ) → lower-expression-lts.Need-lower-unary-requires (calls t) (lower-expression-at t) lower-expression.Post
 lower-unary-requires t c κs = (omega (arith, c .before .before .before .before .before .before .before .before .before .before .before .before .before .pre .0), (c .before .before .before .before .before .before .before .before .before .before .before .before .before .pre .1, below-of (c .before .before .before .before .before .before .before .before .before .before .before .before .before .pre .1 .0) _ (c .before .before .before .before .before .before .node-at .ensures) (c .before .before .before .before .kind6 .given .1)))
 
-lower-not-requires : (t : ℕ) → lower-expression-lts.Need-lower-not-requires (calls t) (lower-expression-at t) lower-expression.Post
-lower-not-requires t c κs = (omega (arith, c .before .before .before .before .before .before .before .before .before .before .before .before .before .pre .0), (c .before .before .before .before .before .before .before .before .before .before .before .before .before .pre .1, below-of (c .before .before .before .before .before .before .before .before .before .before .before .before .before .pre .1 .0) _ (c .before .before .before .before .before .before .node-at .ensures) (c .before .before .before .before .kind7 .given .1)))
+lower-unary-requires-2 : (t : ℕ) → lower-expression-lts.Need-lower-unary-requires-2 (calls t) (lower-expression-at t) lower-expression.Post
+lower-unary-requires-2 t c κs = (omega (arith, c .before .before .before .before .before .before .before .before .before .before .before .before .before .pre .0), (c .before .before .before .before .before .before .before .before .before .before .before .before .before .pre .1, below-of (c .before .before .before .before .before .before .before .before .before .before .before .before .before .pre .1 .0) _ (c .before .before .before .before .before .before .node-at .ensures) (c .before .before .before .before .kind7 .given .1)))
 
 lower-and-requires : (t : ℕ) → lower-expression-lts.Need-lower-and-requires (calls t) (lower-expression-at t) lower-expression.Post
 lower-and-requires t c κs = (omega (arith, c .before .before .before .before .before .before .before .before .before .before .before .before .before .pre .0), (c .before .before .before .before .before .before .before .before .before .before .before .before .before .pre .1, below-of (c .before .before .before .before .before .before .before .before .before .before .before .before .before .pre .1 .0) _ (c .before .before .before .before .before .before .node-at .ensures) (c .before .before .before .before .kind8 .given .1)))
@@ -50,8 +49,8 @@ lower-block-requires t c κs = (omega (arith, c .before .before .before .before 
 lower-call-requires : (t : ℕ) → lower-expression-lts.Need-lower-call-requires (calls t) (lower-expression-at t) lower-expression.Post
 lower-call-requires t c κs = (omega (arith, c .before .before .before .before .before .before .before .before .before .before .before .before .before .pre .0), (c .before .before .before .before .before .before .before .before .before .before .before .before .before .pre .1, below-of (c .before .before .before .before .before .before .before .before .before .before .before .before .before .pre .1 .0) _ (c .before .before .before .before .before .before .node-at .ensures) (c .before .before .before .before .kind12 .given .1)))
 
-lower-property-requires : (t : ℕ) → lower-expression-lts.Need-lower-property-requires (calls t) (lower-expression-at t) lower-expression.Post
-lower-property-requires t c κs = (omega (arith, c .before .before .before .before .before .before .before .before .before .before .before .before .before .pre .0), (c .before .before .before .before .before .before .before .before .before .before .before .before .before .pre .1, below-of (c .before .before .before .before .before .before .before .before .before .before .before .before .before .pre .1 .0) _ (c .before .before .before .before .before .before .node-at .ensures) (c .before .before .before .before .kind13 .given .1)))
+lower-unary-requires-3 : (t : ℕ) → lower-expression-lts.Need-lower-unary-requires-3 (calls t) (lower-expression-at t) lower-expression.Post
+lower-unary-requires-3 t c κs = (omega (arith, c .before .before .before .before .before .before .before .before .before .before .before .before .before .pre .0), (c .before .before .before .before .before .before .before .before .before .before .before .before .before .pre .1, below-of (c .before .before .before .before .before .before .before .before .before .before .before .before .before .pre .1 .0) _ (c .before .before .before .before .before .before .node-at .ensures) (c .before .before .before .before .kind13 .given .1)))
 
 lower-map-requires : (t : ℕ) → lower-expression-lts.Need-lower-map-requires (calls t) (lower-expression-at t) lower-expression.Post
 lower-map-requires t c κs = (omega (arith, c .before .before .before .before .before .before .before .before .before .before .before .before .before .pre .0), (c .before .before .before .before .before .before .before .before .before .before .before .before .before .pre .1, below-of (c .before .before .before .before .before .before .before .before .before .before .before .before .before .pre .1 .0) _ (c .before .before .before .before .before .before .node-at .ensures) (c .before .before .before .before .kind14 .given .1)))
@@ -80,10 +79,12 @@ returns-6 : (t : ℕ) → lower-expression-lts.Need-returns-6 (calls t) (lower-e
 returns-6 t c = expression-of (c .before .before .before .before .before .before .before .before .before .before .before .before .before .before .before .before .before .before .before .before .pre .1 .0) _ (c .before .before .before .before .before .before .before .before .before .before .before .before .before .node-at .ensures) (c .before .before .before .before .before .before .before .before .before .before .before .kind5 .given .1) _ _ (c .before .before .before .before .before .before .lower-binary .ensures)
 
 returns-7 : (t : ℕ) → lower-expression-lts.Need-returns-7 (calls t) (lower-expression-at t) lower-expression.Post
+unfolding singleNode
 returns-7 t c = expression-of (c .before .before .before .before .before .before .before .before .before .before .before .before .before .before .before .before .before .before .before .before .pre .1 .0) _ (c .before .before .before .before .before .before .before .before .before .before .before .before .before .node-at .ensures) (c .before .before .before .before .before .before .before .before .before .before .before .kind6 .given .1) _ _ (c .before .before .before .before .before .before .lower-unary .ensures)
 
 returns-8 : (t : ℕ) → lower-expression-lts.Need-returns-8 (calls t) (lower-expression-at t) lower-expression.Post
-returns-8 t c = expression-of (c .before .before .before .before .before .before .before .before .before .before .before .before .before .before .before .before .before .before .before .before .pre .1 .0) _ (c .before .before .before .before .before .before .before .before .before .before .before .before .before .node-at .ensures) (c .before .before .before .before .before .before .before .before .before .before .before .kind7 .given .1) _ _ (c .before .before .before .before .before .before .lower-not .ensures)
+unfolding singleNode
+returns-8 t c = expression-of (c .before .before .before .before .before .before .before .before .before .before .before .before .before .before .before .before .before .before .before .before .pre .1 .0) _ (c .before .before .before .before .before .before .before .before .before .before .before .before .before .node-at .ensures) (c .before .before .before .before .before .before .before .before .before .before .before .kind7 .given .1) _ _ (c .before .before .before .before .before .before .lower-unary2 .ensures)
 
 returns-9 : (t : ℕ) → lower-expression-lts.Need-returns-9 (calls t) (lower-expression-at t) lower-expression.Post
 returns-9 t c = expression-of (c .before .before .before .before .before .before .before .before .before .before .before .before .before .before .before .before .before .before .before .before .pre .1 .0) _ (c .before .before .before .before .before .before .before .before .before .before .before .before .before .node-at .ensures) (c .before .before .before .before .before .before .before .before .before .before .before .kind8 .given .1) _ _ (c .before .before .before .before .before .before .lower-and .ensures)
@@ -101,7 +102,8 @@ returns-13 : (t : ℕ) → lower-expression-lts.Need-returns-13 (calls t) (lower
 returns-13 t c = expression-of (c .before .before .before .before .before .before .before .before .before .before .before .before .before .before .before .before .before .before .before .before .pre .1 .0) _ (c .before .before .before .before .before .before .before .before .before .before .before .before .before .node-at .ensures) (c .before .before .before .before .before .before .before .before .before .before .before .kind12 .given .1) _ _ (c .before .before .before .before .before .before .lower-call .ensures)
 
 returns-14 : (t : ℕ) → lower-expression-lts.Need-returns-14 (calls t) (lower-expression-at t) lower-expression.Post
-returns-14 t c = expression-of (c .before .before .before .before .before .before .before .before .before .before .before .before .before .before .before .before .before .before .before .before .pre .1 .0) _ (c .before .before .before .before .before .before .before .before .before .before .before .before .before .node-at .ensures) (c .before .before .before .before .before .before .before .before .before .before .before .kind13 .given .1) _ _ (c .before .before .before .before .before .before .lower-property .ensures)
+unfolding singleNode
+returns-14 t c = expression-of (c .before .before .before .before .before .before .before .before .before .before .before .before .before .before .before .before .before .before .before .before .pre .1 .0) _ (c .before .before .before .before .before .before .before .before .before .before .before .before .before .node-at .ensures) (c .before .before .before .before .before .before .before .before .before .before .before .kind13 .given .1) _ _ (c .before .before .before .before .before .before .lower-unary3 .ensures)
 
 returns-15 : (t : ℕ) → lower-expression-lts.Need-returns-15 (calls t) (lower-expression-at t) lower-expression.Post
 returns-15 t c = expression-of (c .before .before .before .before .before .before .before .before .before .before .before .before .before .before .before .before .before .before .before .before .pre .1 .0) _ (c .before .before .before .before .before .before .before .before .before .before .before .before .before .node-at .ensures) (c .before .before .before .before .before .before .before .before .before .before .before .kind14 .given .1) _ _ (c .before .before .before .before .before .before .lower-map .ensures)
@@ -122,7 +124,7 @@ lower-expression-proof t =
     (λ c. search needs)
     (lower-unary-requires t)
     (λ c. search needs)
-    (lower-not-requires t)
+    (lower-unary-requires-2 t)
     (λ c. search needs)
     (lower-and-requires t)
     (λ c. search needs)
@@ -134,7 +136,7 @@ lower-expression-proof t =
     (λ c. search needs)
     (lower-call-requires t)
     (λ c. search needs)
-    (lower-property-requires t)
+    (lower-unary-requires-3 t)
     (λ c. search needs)
     (lower-map-requires t)
     (returns t)
@@ -151,9 +153,9 @@ lower-expression-proof t =
     (λ c. c .before .before .before .before .before .before .lower-unary .kept .1 .1 .1 .1 .0)
     (λ c. c .before .before .before .before .before .before .lower-unary .kept .1 .1 .1 .1 .1 .0)
     (returns-7 t)
-    (λ c. c .before .before .before .before .before .before .lower-not .kept .1 .1 .1 .0)
-    (λ c. c .before .before .before .before .before .before .lower-not .kept .1 .1 .1 .1 .0)
-    (λ c. c .before .before .before .before .before .before .lower-not .kept .1 .1 .1 .1 .1 .0)
+    (λ c. c .before .before .before .before .before .before .lower-unary2 .kept .1 .1 .1 .0)
+    (λ c. c .before .before .before .before .before .before .lower-unary2 .kept .1 .1 .1 .1 .0)
+    (λ c. c .before .before .before .before .before .before .lower-unary2 .kept .1 .1 .1 .1 .1 .0)
     (returns-8 t)
     (λ c. c .before .before .before .before .before .before .lower-and .kept .1 .1 .1 .0)
     (λ c. c .before .before .before .before .before .before .lower-and .kept .1 .1 .1 .1 .0)
@@ -175,9 +177,9 @@ lower-expression-proof t =
     (λ c. c .before .before .before .before .before .before .lower-call .kept .1 .1 .1 .1 .0)
     (λ c. c .before .before .before .before .before .before .lower-call .kept .1 .1 .1 .1 .1 .0)
     (returns-13 t)
-    (λ c. c .before .before .before .before .before .before .lower-property .kept .1 .1 .1 .0)
-    (λ c. c .before .before .before .before .before .before .lower-property .kept .1 .1 .1 .1 .0)
-    (λ c. c .before .before .before .before .before .before .lower-property .kept .1 .1 .1 .1 .1 .0)
+    (λ c. c .before .before .before .before .before .before .lower-unary3 .kept .1 .1 .1 .0)
+    (λ c. c .before .before .before .before .before .before .lower-unary3 .kept .1 .1 .1 .1 .0)
+    (λ c. c .before .before .before .before .before .before .lower-unary3 .kept .1 .1 .1 .1 .1 .0)
     (returns-14 t)
     (λ c. c .before .before .before .before .before .before .lower-map .kept .1 .1 .1 .0)
     (λ c. c .before .before .before .before .before .before .lower-map .kept .1 .1 .1 .1 .0)

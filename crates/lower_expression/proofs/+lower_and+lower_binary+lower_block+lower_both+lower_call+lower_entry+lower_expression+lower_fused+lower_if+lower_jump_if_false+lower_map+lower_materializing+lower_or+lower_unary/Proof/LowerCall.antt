@@ -14,7 +14,7 @@ use Rattle.steps.specs.declared.answer.Answer.{Answer}
 use Rattle.steps.specs.Answers.{asRegister}
 use Rattle.lower_expression.proofs.Laws.{then-register, stop, nested, arguments-none, arguments-more, arguments-again}
 use Rattle.lower_expression.proofs.lower_call.Reads as lower-call
-use Rattle.lower_expression.proofs.+lower_and+lower_binary+lower_block+lower_both+lower_call+lower_compared+lower_entry+lower_expression+lower_if+lower_jump_if_false+lower_keyed+lower_map+lower_materializing+lower_named+lower_not+lower_or+lower_property+lower_test+lower_unary.Lts-lower_call as lower-call-lts
+use Rattle.lower_expression.proofs.+lower_and+lower_binary+lower_block+lower_both+lower_call+lower_entry+lower_expression+lower_fused+lower_if+lower_jump_if_false+lower_map+lower_materializing+lower_or+lower_unary.Lts-lower_call as lower-call-lts
 use Rattle.lower_expression.proofs.lower_materializing.Reads as lower-materializing
 use Rattle.runtime.proofs.operands.reg_of.Reads as reg-of-reads
 use Rattle.steps.proofs.answer.is_refused.Reads as is-refused-reads
@@ -23,7 +23,7 @@ use Rattle.steps.proofs.mark.mark.Reads as mark-reads
 use Rattle.steps.proofs.step.destination.Reads as destination-reads
 use Rattle.steps.proofs.step.finish.Reads as finish-reads
 use Rattle.words.proofs.word.Reads as word-reads
-use Rattle.lower_expression.proofs.+lower_and+lower_binary+lower_block+lower_both+lower_call+lower_compared+lower_entry+lower_expression+lower_if+lower_jump_if_false+lower_keyed+lower_map+lower_materializing+lower_named+lower_not+lower_or+lower_property+lower_test+lower_unary.Proof.Measures.{lower-call-at, lower-materializing-below}
+use Rattle.lower_expression.proofs.+lower_and+lower_binary+lower_block+lower_both+lower_call+lower_entry+lower_expression+lower_fused+lower_if+lower_jump_if_false+lower_map+lower_materializing+lower_or+lower_unary.Proof.Measures.{lower-call-at, lower-materializing-below}
 
 abbrev pub calls : ℕ → lower-call-lts.Claims
 calls t = (word-reads.Asked, word-reads.Learnt, lower-materializing-below t, lower-materializing.Post, is-refused-reads.Asked, is-refused-reads.Learnt, mark-reads.Asked, mark-reads.Learnt, destination-reads.Asked, destination-reads.Learnt, register-of-reads.Asked, register-of-reads.Learnt, reg-of-reads.Asked, reg-of-reads.Learnt, finish-reads.Asked, finish-reads.Learnt)

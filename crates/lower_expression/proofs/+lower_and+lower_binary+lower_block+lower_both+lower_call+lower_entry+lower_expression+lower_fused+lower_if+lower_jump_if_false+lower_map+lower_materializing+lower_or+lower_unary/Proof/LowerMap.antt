@@ -14,14 +14,14 @@ use Rattle.steps.specs.Answers.{asRegister}
 use Rattle.lower_expression.proofs.Laws.{then-register, then-place, stop, nested, entries-more, entries-again, created, map-done}
 use Rattle.lower_expression.proofs.lower_entry.Reads as lower-entry
 use Rattle.lower_expression.proofs.lower_map.Reads as lower-map
-use Rattle.lower_expression.proofs.+lower_and+lower_binary+lower_block+lower_both+lower_call+lower_compared+lower_entry+lower_expression+lower_if+lower_jump_if_false+lower_keyed+lower_map+lower_materializing+lower_named+lower_not+lower_or+lower_property+lower_test+lower_unary.Lts-lower_map as lower-map-lts
+use Rattle.lower_expression.proofs.+lower_and+lower_binary+lower_block+lower_both+lower_call+lower_entry+lower_expression+lower_fused+lower_if+lower_jump_if_false+lower_map+lower_materializing+lower_or+lower_unary.Lts-lower_map as lower-map-lts
 use Rattle.runtime.proofs.operands.reg_of.Reads as reg-of-reads
 use Rattle.steps.proofs.answer.is_refused.Reads as is-refused-reads
 use Rattle.steps.proofs.answer.register_of.Reads as register-of-reads
 use Rattle.steps.proofs.step.destination.Reads as destination-reads
 use Rattle.steps.proofs.step.emit.Reads as emit-reads
 use Rattle.words.proofs.word.Reads as word-reads
-use Rattle.lower_expression.proofs.+lower_and+lower_binary+lower_block+lower_both+lower_call+lower_compared+lower_entry+lower_expression+lower_if+lower_jump_if_false+lower_keyed+lower_map+lower_materializing+lower_named+lower_not+lower_or+lower_property+lower_test+lower_unary.Proof.Measures.{lower-entry-below, lower-map-at}
+use Rattle.lower_expression.proofs.+lower_and+lower_binary+lower_block+lower_both+lower_call+lower_entry+lower_expression+lower_fused+lower_if+lower_jump_if_false+lower_map+lower_materializing+lower_or+lower_unary.Proof.Measures.{lower-entry-below, lower-map-at}
 
 abbrev pub calls : ℕ → lower-map-lts.Claims
 calls t = (destination-reads.Asked, destination-reads.Learnt, is-refused-reads.Asked, is-refused-reads.Learnt, register-of-reads.Asked, register-of-reads.Learnt, reg-of-reads.Asked, reg-of-reads.Learnt, emit-reads.Asked, emit-reads.Learnt, word-reads.Asked, word-reads.Learnt, lower-entry-below t, lower-entry.Post)

@@ -12,91 +12,66 @@ use Rattle.lower_expression.proofs.lower_both.Reads as lower-both
 use Rattle.lower_expression.proofs.lower_both.Kinds as lower-both-kinds
 use Rattle.lower_expression.proofs.lower_call.Reads as lower-call
 use Rattle.lower_expression.proofs.lower_call.Kinds as lower-call-kinds
-use Rattle.lower_expression.proofs.lower_compared.Reads as lower-compared
-use Rattle.lower_expression.proofs.lower_compared.Kinds as lower-compared-kinds
 use Rattle.lower_expression.proofs.lower_entry.Reads as lower-entry
 use Rattle.lower_expression.proofs.lower_entry.Kinds as lower-entry-kinds
 use Rattle.lower_expression.proofs.lower_expression.Reads as lower-expression
 use Rattle.lower_expression.proofs.lower_expression.Kinds as lower-expression-kinds
+use Rattle.lower_expression.proofs.lower_fused.Reads as lower-fused
+use Rattle.lower_expression.proofs.lower_fused.Kinds as lower-fused-kinds
 use Rattle.lower_expression.proofs.lower_if.Reads as lower-if
 use Rattle.lower_expression.proofs.lower_if.Kinds as lower-if-kinds
 use Rattle.lower_expression.proofs.lower_jump_if_false.Reads as lower-jump-if-false
 use Rattle.lower_expression.proofs.lower_jump_if_false.Kinds as lower-jump-if-false-kinds
-use Rattle.lower_expression.proofs.lower_keyed.Reads as lower-keyed
-use Rattle.lower_expression.proofs.lower_keyed.Kinds as lower-keyed-kinds
 use Rattle.lower_expression.proofs.lower_map.Reads as lower-map
 use Rattle.lower_expression.proofs.lower_map.Kinds as lower-map-kinds
 use Rattle.lower_expression.proofs.lower_materializing.Reads as lower-materializing
 use Rattle.lower_expression.proofs.lower_materializing.Kinds as lower-materializing-kinds
-use Rattle.lower_expression.proofs.lower_named.Reads as lower-named
-use Rattle.lower_expression.proofs.lower_named.Kinds as lower-named-kinds
-use Rattle.lower_expression.proofs.lower_not.Reads as lower-not
-use Rattle.lower_expression.proofs.lower_not.Kinds as lower-not-kinds
 use Rattle.lower_expression.proofs.lower_or.Reads as lower-or
 use Rattle.lower_expression.proofs.lower_or.Kinds as lower-or-kinds
-use Rattle.lower_expression.proofs.lower_property.Reads as lower-property
-use Rattle.lower_expression.proofs.lower_property.Kinds as lower-property-kinds
-use Rattle.lower_expression.proofs.lower_test.Reads as lower-test
-use Rattle.lower_expression.proofs.lower_test.Kinds as lower-test-kinds
 use Rattle.lower_expression.proofs.lower_unary.Reads as lower-unary
 use Rattle.lower_expression.proofs.lower_unary.Kinds as lower-unary-kinds
 
 abbrev pub μ-lower-and : Measures 6 lower-and-kinds.ps ℕ
-μ-lower-and κs a = 8 * a .1 .1 .1 .1 .1 .1 .1 .1 .0 + 2
+μ-lower-and κs a = 8 * a .1 .1 .1 .1 .1 .1 .1 .1 .0 + 1
 
 abbrev pub μ-lower-binary : Measures 6 lower-binary-kinds.ps ℕ
-μ-lower-binary κs a = 8 * a .1 .1 .1 .1 .1 .1 .1 .1 .0 + 2
+μ-lower-binary κs a = 8 * a .1 .1 .1 .1 .1 .1 .1 .1 .0 + 1
 
 abbrev pub μ-lower-block : Measures 6 lower-block-kinds.ps ℕ
-μ-lower-block κs a = 8 * a .1 .1 .1 .1 .1 .1 .1 .1 .0 + 2
+μ-lower-block κs a = 8 * a .1 .1 .1 .1 .1 .1 .1 .1 .0 + 1
 
 abbrev pub μ-lower-both : Measures 6 lower-both-kinds.ps ℕ
-μ-lower-both κs a = 8 * a .1 .1 .1 .1 .1 .1 .1 .1 .0 + 1
+μ-lower-both κs a = 8 * a .1 .1 .1 .1 .1 .1 .1 .1 .0 + 0
 
 abbrev pub μ-lower-call : Measures 6 lower-call-kinds.ps ℕ
-μ-lower-call κs a = 8 * a .1 .1 .1 .1 .1 .1 .1 .1 .0 + 2
-
-abbrev pub μ-lower-compared : Measures 6 lower-compared-kinds.ps ℕ
-μ-lower-compared κs a = 8 * a .1 .1 .1 .1 .1 .1 .1 .1 .0 + 6
+μ-lower-call κs a = 8 * a .1 .1 .1 .1 .1 .1 .1 .1 .0 + 1
 
 abbrev pub μ-lower-entry : Measures 6 lower-entry-kinds.ps ℕ
-μ-lower-entry κs a = 8 * a .1 .1 .1 .1 .1 .1 .1 .1 .0 + 1
+μ-lower-entry κs a = 8 * a .1 .1 .1 .1 .1 .1 .1 .1 .0 + 0
 
 abbrev pub μ-lower-expression : Measures 6 lower-expression-kinds.ps ℕ
-μ-lower-expression κs a = 8 * a .1 .1 .1 .1 .1 .1 .1 .1 .0 + 3
+μ-lower-expression κs a = 8 * a .1 .1 .1 .1 .1 .1 .1 .1 .0 + 2
+
+abbrev pub μ-lower-fused : Measures 6 lower-fused-kinds.ps ℕ
+μ-lower-fused κs a = 8 * a .1 .1 .1 .1 .1 .1 .1 .1 .0 + 4
 
 abbrev pub μ-lower-if : Measures 6 lower-if-kinds.ps ℕ
-μ-lower-if κs a = 8 * a .1 .1 .1 .1 .1 .1 .1 .1 .0 + 2
+μ-lower-if κs a = 8 * a .1 .1 .1 .1 .1 .1 .1 .1 .0 + 1
 
 abbrev pub μ-lower-jump-if-false : Measures 6 lower-jump-if-false-kinds.ps ℕ
-μ-lower-jump-if-false κs a = 8 * a .1 .1 .1 .1 .1 .1 .1 .1 .0 + 7
-
-abbrev pub μ-lower-keyed : Measures 6 lower-keyed-kinds.ps ℕ
-μ-lower-keyed κs a = 8 * a .1 .1 .1 .1 .1 .1 .1 .1 .0 + 0
+μ-lower-jump-if-false κs a = 8 * a .1 .1 .1 .1 .1 .1 .1 .1 .0 + 5
 
 abbrev pub μ-lower-map : Measures 6 lower-map-kinds.ps ℕ
-μ-lower-map κs a = 8 * a .1 .1 .1 .1 .1 .1 .1 .1 .0 + 2
+μ-lower-map κs a = 8 * a .1 .1 .1 .1 .1 .1 .1 .1 .0 + 1
 
 abbrev pub μ-lower-materializing : Measures 6 lower-materializing-kinds.ps ℕ
-μ-lower-materializing κs a = 8 * a .1 .1 .1 .1 .1 .1 .1 .1 .0 + 4
-
-abbrev pub μ-lower-named : Measures 6 lower-named-kinds.ps ℕ
-μ-lower-named κs a = 8 * a .1 .1 .1 .1 .1 .1 .1 .1 .0 + 0
-
-abbrev pub μ-lower-not : Measures 6 lower-not-kinds.ps ℕ
-μ-lower-not κs a = 8 * a .1 .1 .1 .1 .1 .1 .1 .1 .0 + 2
+μ-lower-materializing κs a = 8 * a .1 .1 .1 .1 .1 .1 .1 .1 .0 + 3
 
 abbrev pub μ-lower-or : Measures 6 lower-or-kinds.ps ℕ
-μ-lower-or κs a = 8 * a .1 .1 .1 .1 .1 .1 .1 .1 .0 + 2
-
-abbrev pub μ-lower-property : Measures 6 lower-property-kinds.ps ℕ
-μ-lower-property κs a = 8 * a .1 .1 .1 .1 .1 .1 .1 .1 .0 + 2
-
-abbrev pub μ-lower-test : Measures 6 lower-test-kinds.ps ℕ
-μ-lower-test κs a = 8 * a .1 .1 .1 .1 .1 .1 .1 .1 .0 + 5
+μ-lower-or κs a = 8 * a .1 .1 .1 .1 .1 .1 .1 .1 .0 + 1
 
 abbrev pub μ-lower-unary : Measures 6 lower-unary-kinds.ps ℕ
-μ-lower-unary κs a = 8 * a .1 .1 .1 .1 .1 .1 .1 .1 .0 + 2
+μ-lower-unary κs a = 8 * a .1 .1 .1 .1 .1 .1 .1 .1 .0 + 1
 
 abbrev pub lower-and-at : ℕ → In 6 lower-and-kinds.ps
 lower-and-at t = and 6 lower-and-kinds.ps (is 6 lower-and-kinds.ps μ-lower-and t) lower-and.Pre
@@ -141,22 +116,6 @@ abbrev pub lower-call-below : ℕ → In 6 lower-call-kinds.ps
 lower-call-below t =
     and 6 lower-call-kinds.ps (falls 6 lower-call-kinds.ps _<_ μ-lower-call t) lower-call.Pre
 
-abbrev pub lower-compared-at : ℕ → In 6 lower-compared-kinds.ps
-lower-compared-at t =
-    and
-    6
-    lower-compared-kinds.ps
-    (is 6 lower-compared-kinds.ps μ-lower-compared t)
-    lower-compared.Pre
-
-abbrev pub lower-compared-below : ℕ → In 6 lower-compared-kinds.ps
-lower-compared-below t =
-    and
-    6
-    lower-compared-kinds.ps
-    (falls 6 lower-compared-kinds.ps _<_ μ-lower-compared t)
-    lower-compared.Pre
-
 abbrev pub lower-entry-at : ℕ → In 6 lower-entry-kinds.ps
 lower-entry-at t =
     and 6 lower-entry-kinds.ps (is 6 lower-entry-kinds.ps μ-lower-entry t) lower-entry.Pre
@@ -181,6 +140,14 @@ lower-expression-below t =
     (falls 6 lower-expression-kinds.ps _<_ μ-lower-expression t)
     lower-expression.Pre
 
+abbrev pub lower-fused-at : ℕ → In 6 lower-fused-kinds.ps
+lower-fused-at t =
+    and 6 lower-fused-kinds.ps (is 6 lower-fused-kinds.ps μ-lower-fused t) lower-fused.Pre
+
+abbrev pub lower-fused-below : ℕ → In 6 lower-fused-kinds.ps
+lower-fused-below t =
+    and 6 lower-fused-kinds.ps (falls 6 lower-fused-kinds.ps _<_ μ-lower-fused t) lower-fused.Pre
+
 abbrev pub lower-if-at : ℕ → In 6 lower-if-kinds.ps
 lower-if-at t = and 6 lower-if-kinds.ps (is 6 lower-if-kinds.ps μ-lower-if t) lower-if.Pre
 
@@ -203,14 +170,6 @@ lower-jump-if-false-below t =
     lower-jump-if-false-kinds.ps
     (falls 6 lower-jump-if-false-kinds.ps _<_ μ-lower-jump-if-false t)
     lower-jump-if-false.Pre
-
-abbrev pub lower-keyed-at : ℕ → In 6 lower-keyed-kinds.ps
-lower-keyed-at t =
-    and 6 lower-keyed-kinds.ps (is 6 lower-keyed-kinds.ps μ-lower-keyed t) lower-keyed.Pre
-
-abbrev pub lower-keyed-below : ℕ → In 6 lower-keyed-kinds.ps
-lower-keyed-below t =
-    and 6 lower-keyed-kinds.ps (falls 6 lower-keyed-kinds.ps _<_ μ-lower-keyed t) lower-keyed.Pre
 
 abbrev pub lower-map-at : ℕ → In 6 lower-map-kinds.ps
 lower-map-at t = and 6 lower-map-kinds.ps (is 6 lower-map-kinds.ps μ-lower-map t) lower-map.Pre
@@ -235,51 +194,12 @@ lower-materializing-below t =
     (falls 6 lower-materializing-kinds.ps _<_ μ-lower-materializing t)
     lower-materializing.Pre
 
-abbrev pub lower-named-at : ℕ → In 6 lower-named-kinds.ps
-lower-named-at t =
-    and 6 lower-named-kinds.ps (is 6 lower-named-kinds.ps μ-lower-named t) lower-named.Pre
-
-abbrev pub lower-named-below : ℕ → In 6 lower-named-kinds.ps
-lower-named-below t =
-    and 6 lower-named-kinds.ps (falls 6 lower-named-kinds.ps _<_ μ-lower-named t) lower-named.Pre
-
-abbrev pub lower-not-at : ℕ → In 6 lower-not-kinds.ps
-lower-not-at t = and 6 lower-not-kinds.ps (is 6 lower-not-kinds.ps μ-lower-not t) lower-not.Pre
-
-abbrev pub lower-not-below : ℕ → In 6 lower-not-kinds.ps
-lower-not-below t =
-    and 6 lower-not-kinds.ps (falls 6 lower-not-kinds.ps _<_ μ-lower-not t) lower-not.Pre
-
 abbrev pub lower-or-at : ℕ → In 6 lower-or-kinds.ps
 lower-or-at t = and 6 lower-or-kinds.ps (is 6 lower-or-kinds.ps μ-lower-or t) lower-or.Pre
 
 abbrev pub lower-or-below : ℕ → In 6 lower-or-kinds.ps
 lower-or-below t =
     and 6 lower-or-kinds.ps (falls 6 lower-or-kinds.ps _<_ μ-lower-or t) lower-or.Pre
-
-abbrev pub lower-property-at : ℕ → In 6 lower-property-kinds.ps
-lower-property-at t =
-    and
-    6
-    lower-property-kinds.ps
-    (is 6 lower-property-kinds.ps μ-lower-property t)
-    lower-property.Pre
-
-abbrev pub lower-property-below : ℕ → In 6 lower-property-kinds.ps
-lower-property-below t =
-    and
-    6
-    lower-property-kinds.ps
-    (falls 6 lower-property-kinds.ps _<_ μ-lower-property t)
-    lower-property.Pre
-
-abbrev pub lower-test-at : ℕ → In 6 lower-test-kinds.ps
-lower-test-at t =
-    and 6 lower-test-kinds.ps (is 6 lower-test-kinds.ps μ-lower-test t) lower-test.Pre
-
-abbrev pub lower-test-below : ℕ → In 6 lower-test-kinds.ps
-lower-test-below t =
-    and 6 lower-test-kinds.ps (falls 6 lower-test-kinds.ps _<_ μ-lower-test t) lower-test.Pre
 
 abbrev pub lower-unary-at : ℕ → In 6 lower-unary-kinds.ps
 lower-unary-at t =

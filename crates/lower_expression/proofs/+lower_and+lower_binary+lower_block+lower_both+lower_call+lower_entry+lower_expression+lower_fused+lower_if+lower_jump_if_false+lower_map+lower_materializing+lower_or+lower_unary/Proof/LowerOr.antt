@@ -10,7 +10,7 @@ use Rattle.steps.proofs.Chains.{then-done}
 use Rattle.lower_expression.proofs.Laws.{then-register, then-place, stop}
 use Rattle.lower_expression.proofs.lower_materializing.Reads as lower-materializing
 use Rattle.lower_expression.proofs.lower_or.Reads as lower-or
-use Rattle.lower_expression.proofs.+lower_and+lower_binary+lower_block+lower_both+lower_call+lower_compared+lower_entry+lower_expression+lower_if+lower_jump_if_false+lower_keyed+lower_map+lower_materializing+lower_named+lower_not+lower_or+lower_property+lower_test+lower_unary.Lts-lower_or as lower-or-lts
+use Rattle.lower_expression.proofs.+lower_and+lower_binary+lower_block+lower_both+lower_call+lower_entry+lower_expression+lower_fused+lower_if+lower_jump_if_false+lower_map+lower_materializing+lower_or+lower_unary.Lts-lower_or as lower-or-lts
 use Rattle.runtime.proofs.operands.reg_of.Reads as reg-of-reads
 use Rattle.steps.proofs.answer.is_refused.Reads as is-refused-reads
 use Rattle.steps.proofs.answer.place_of.Reads as place-of-reads
@@ -18,7 +18,7 @@ use Rattle.steps.proofs.answer.register_of.Reads as register-of-reads
 use Rattle.steps.proofs.jump.patch_to_next.Reads as patch-to-next-reads
 use Rattle.steps.proofs.step.destination.Reads as destination-reads
 use Rattle.steps.proofs.step.emit.Reads as emit-reads
-use Rattle.lower_expression.proofs.+lower_and+lower_binary+lower_block+lower_both+lower_call+lower_compared+lower_entry+lower_expression+lower_if+lower_jump_if_false+lower_keyed+lower_map+lower_materializing+lower_named+lower_not+lower_or+lower_property+lower_test+lower_unary.Proof.Measures.{lower-materializing-below, lower-or-at}
+use Rattle.lower_expression.proofs.+lower_and+lower_binary+lower_block+lower_both+lower_call+lower_entry+lower_expression+lower_fused+lower_if+lower_jump_if_false+lower_map+lower_materializing+lower_or+lower_unary.Proof.Measures.{lower-materializing-below, lower-or-at}
 
 abbrev pub calls : ℕ → lower-or-lts.Claims
 calls t = (destination-reads.Asked, destination-reads.Learnt, is-refused-reads.Asked, is-refused-reads.Learnt, register-of-reads.Asked, register-of-reads.Learnt, lower-materializing-below t, lower-materializing.Post, reg-of-reads.Asked, reg-of-reads.Learnt, emit-reads.Asked, emit-reads.Learnt, place-of-reads.Asked, place-of-reads.Learnt, patch-to-next-reads.Asked, patch-to-next-reads.Learnt)
