@@ -1029,12 +1029,16 @@ fn lower_entry(
         ≡ seen (made (words (now (code .exit))) (words (now (constants .exit))) (words (now (marks .exit))) (r .state)) (r .answer) ⌝ }
 {
     let mut s = state;
+    let mut r = Lowered {
+        state,
+        answer: Answer::Place(0),
+    };
     let kind = node_at(nodes, key);
     let name = name_of(kind);
     match name {
         Named::By(symbol) => {
             if value == ABSENT {
-                let mut r = lower_materializing(
+                r = lower_materializing(
                     nodes,
                     list,
                     names,
@@ -1054,7 +1058,7 @@ fn lower_entry(
                 let src = operand_of(a1);
                 return set_named(code, constants, s1, d, symbol, src);
             }
-            let mut r = lower_expression(
+            r = lower_expression(
                 nodes,
                 list,
                 names,
@@ -1080,7 +1084,7 @@ fn lower_entry(
                 let answer = error_at(nodes, Refusal::Key, key);
                 return Lowered { state, answer };
             }
-            let mut r = lower_expression(
+            r = lower_expression(
                 nodes,
                 list,
                 names,

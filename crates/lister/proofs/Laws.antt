@@ -1,0 +1,137 @@
+-- What the program prints: of a tree in slices, by what lowering leaves; of a good text, by the bytes that reading leaves; and that its output buffer
+-- holds every listing. Assumes nothing.
+use mathlib.Core.Path.{_≡_, refl, sym, ap, _∙_}
+use mathlib.Core.List.{List, [], _∷_, _++_}
+use mathlib.Core.Option.{none}
+use Prim.Native.Nat.{ℕ, zero, suc, _+_, _*_, _≤_, _<_}
+use native.Mathlib.Omega.{arith}
+use lib.ListN.{length, getD, take, replicate, length-replicate}
+use Rattle.words.specs.Words.{words, tail, bytesOf}
+use Rattle.words.specs.Records.{capacity}
+use Rattle.syntax.specs.Ast.{nodeWidth}
+use Rattle.runtime.specs.Instruction.{instructionWidth}
+use Rattle.runtime.specs.Value.{constantWidth}
+use Rattle.lowering.specs.Result.{Lowered, lower}
+use Rattle.lowering.proofs.Answers.{nothing-beyond}
+use Rattle.codegen.specs.declared.Result.{Result}
+use Rattle.codegen.specs.Numbers.{numbers}
+use Rattle.codegen.proofs.Width.{Bytes}
+use Rattle.codegen.proofs.Program.{exact}
+use Rattle.listing.specs.declared.text.Header.{Header}
+use Rattle.listing.specs.declared.text.Head.{Head}
+use Rattle.listing.specs.Text.{maxNodes, maxListWords, maxParameters, listWidth, nameWidth, readHeader, readNodes, readList, readNames, readText, filled}
+use Rattle.listing.specs.Output.{maxInstructions, maxConstants, maxMarks, numbersOf, printed, listing, printTree, lowerlist}
+use Rattle.listing.proofs.Written.{printed-length}
+use Rattle.listing.proofs.Program.{zero-words, length-zeros, text-bounds, nodes-bytes, list-bytes, names-bytes, lowered-prints, good-prints, bad-prints}
+use Rattle.lister.specs.Lister.{treeListing}
+
+zero-bytes : (n : ℕ) → Bytes (replicate n 0)
+zero-bytes zero zero = omega arith
+zero-bytes zero (suc i) = omega arith
+zero-bytes (suc n) zero = omega arith
+zero-bytes (suc n) (suc i) = zero-bytes n i
+
+-- ---- a tree
+
+module _ (nodes : List ℕ) (bytes : Bytes nodes) (root mode : ℕ) (list names : List ℕ) where
+  abbrev zeros : ℕ → List ℕ
+  zeros n = replicate (4 * n) 0
+
+  abbrev left : ℕ → ℕ → ℕ → Lowered
+  left i k m = lower nodes root mode list names (words (zeros i)) (words (zeros k)) (words (zeros m))
+
+  abbrev came : Result → List ℕ → List ℕ → List ℕ → Lowered
+  came r code constants marks = record { result = numbers r; code = words code; constants = words constants; marks = words marks }
+
+  -- the numbers and the bytes that lowering leaves in buffers of zeros print the listing
+  lowered-listing : (i k m : ℕ) (r : Result) {code constants marks : List ℕ} → numbers r ≡ left i k m .result
+      → code ≡ bytesOf (left i k m .code) ++ tail (zeros i) → constants ≡ bytesOf (left i k m .constants) ++ tail (zeros k) → marks ≡ bytesOf (left i k m .marks) ++ tail (zeros m)
+      → printed (numbersOf (numbers r)) (words code) (words constants) ≡ listing (lower nodes root mode list names (replicate i 0) (replicate k 0) (replicate m 0))
+  unfolding listing
+  lowered-listing i k m r {code} {constants} {marks} a b c d =
+      let same : came r code constants marks ≡ left i k m =
+      exact nodes root mode list names (zeros i) (zeros k) (zeros m) r code constants marks a b c d (zero-bytes (4 * i)) (zero-bytes (4 * k)) (zero-bytes (4 * m)) bytes in
+      let zero : left i k m ≡ lower nodes root mode list names (replicate i 0) (replicate k 0) (replicate m 0) = rw (zero-words i, zero-words k, zero-words m) in
+      ap listing (same ∙ zero)
+
+  abbrev bounded : Lowered
+  bounded = left (instructionWidth * maxInstructions) (constantWidth * maxConstants) maxMarks
+
+  pub tree-listing : (r : Result) {code constants marks : List ℕ} → numbers r ≡ bounded .result
+      → code ≡ bytesOf (bounded .code) ++ tail (zeros (instructionWidth * maxInstructions))
+      → constants ≡ bytesOf (bounded .constants) ++ tail (zeros (constantWidth * maxConstants))
+      → marks ≡ bytesOf (bounded .marks) ++ tail (zeros maxMarks)
+      → printed (numbersOf (numbers r)) (words code) (words constants) ≡ treeListing nodes root mode list names
+  unfolding treeListing
+  tree-listing r a b c d = lowered-listing (instructionWidth * maxInstructions) (constantWidth * maxConstants) maxMarks r a b c d
+
+-- ---- a text
+
+module _ (s : List ℕ) (h : Header) (e : readText s ≡ Head.Good h) where
+  -- the tree that the header tells of has place in buffers of a, b and c bytes
+  pub record Fits (a b c : ℕ) : Type 0 where
+    pub nodes-fit : 24 * h .nodes ≤ a
+    pub list-fits : 4 * h .list ≤ b
+    pub names-fit : 4 * h .names ≤ c
+
+  pub fits : {a b c : ℕ} → a ≡ 24 * maxNodes → b ≡ 4 * maxListWords → c ≡ 4 * maxParameters → Fits a b c
+  fits p q r =
+      let t = text-bounds s h e in
+      record { nodes-fit = omega (arith, t .0); list-fits = omega (arith, t .1); names-fit = omega (arith, t .2) }
+
+  room : (n most : ℕ) → n ≤ most → n ≤ length (words (replicate (4 * most) 0))
+  room n most l = rw (length-zeros most) l
+
+  pub good-listing : {nodes list names : List ℕ}
+      → nodes ≡ filled readNodes (readHeader s) s (replicate (4 * (nodeWidth * maxNodes)) 0)
+      → list ≡ filled readList (readHeader s) s (replicate (4 * (listWidth * maxListWords)) 0)
+      → names ≡ filled readNames (readHeader s) s (replicate (4 * (nameWidth * maxParameters)) 0)
+      → treeListing (take (24 * h .nodes) nodes) (h .root) (h .mode) (take (4 * h .list) list) (take (4 * h .names) names) ≡ lowerlist s
+  unfolding treeListing
+  good-listing a b c =
+      let t = text-bounds s h e in
+      let first = nodes-bytes s h e _ a (room (nodeWidth * h .nodes) (nodeWidth * maxNodes) (omega (arith, t .0))) in
+      let second = list-bytes s h e _ b (room (listWidth * h .list) (listWidth * maxListWords) (omega (arith, t .1))) in
+      let third = names-bytes s h e _ c (room (nameWidth * h .names) (nameWidth * maxParameters) (omega (arith, t .2))) in
+      lowered-prints s h e first second third refl refl refl refl
+
+pub bad-listing : (s : List ℕ) → readText s ≡ Head.Bad → printTree none ≡ lowerlist s
+unfolding printTree
+bad-listing s e = sym (bad-prints s [] [] e)
+
+-- ---- the output
+
+-- "2,048 instructions, 512 constants": the bytes of the longest listing
+abbrev pub listingBytes : ℕ
+listingBytes = 89 + 45 * maxInstructions + 34 * maxConstants
+
+module _ (nodes : List ℕ) (root mode : ℕ) (list names code constants marks : List ℕ) where
+  length-listing : length (listing (lower nodes root mode list names code constants marks)) ≤ 89 + 45 * capacity 4 code + 34 * capacity 3 constants
+  unfolding listing
+  length-listing =
+      let l = lower nodes root mode list names code constants marks in
+      let w = nothing-beyond nodes root mode list names code constants marks in
+      omega (arith, w .code-fits, w .constants-fit, printed-length (numbersOf (l .result)) (l .code) (l .constants))
+
+code-capacity : (n : ℕ) → capacity instructionWidth (replicate (instructionWidth * n) 0) ≡ n
+unfolding capacity
+code-capacity n = rw (length-replicate {A = ℕ} (instructionWidth * n) 0) (omega arith)
+
+constants-capacity : (n : ℕ) → capacity constantWidth (replicate (constantWidth * n) 0) ≡ n
+unfolding capacity
+constants-capacity n = rw (length-replicate {A = ℕ} (constantWidth * n) 0) (omega arith)
+
+pub length-lowerlist : (s : List ℕ) → length (lowerlist s) ≤ listingBytes
+length-lowerlist s = go (readText s) refl
+  where
+    go : (head : Head) → readText s ≡ head → length (lowerlist s) ≤ listingBytes
+    go Head.Bad e = rw (bad-prints s [] [] e) (omega (arith, printed-length (1 ∷ 0 ∷ 0 ∷ 0 ∷ 0 ∷ 0 ∷ 0 ∷ 0 ∷ []) [] []))
+    go (Head.Good h) e =
+        rw (good-prints s h e)
+        (omega (
+          arith,
+          length-listing (bytesOf (readNodes h s .words)) (h .root) (h .mode) (bytesOf (readList h s .words)) (bytesOf (readNames h s .words))
+              (replicate (instructionWidth * maxInstructions) 0) (replicate (constantWidth * maxConstants) 0) (replicate maxMarks 0),
+          code-capacity maxInstructions,
+          constants-capacity maxConstants,
+        ))

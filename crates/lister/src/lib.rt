@@ -1,0 +1,124 @@
+// From a text to its listing: the text is read into buffers, its tree is lowered, and what lowering leaves is printed.
+ghost use mathlib.Core.Path.{_≡_};
+ghost use mathlib.Core.Option.{none};
+ghost use Prim.Native.Nat.{_*_, _≤_};
+ghost use lib.ListN.{length, take};
+ghost use lib.Seq.{sets};
+ghost use Rattle.codegen.specs.Numbers.{numbers};
+ghost use Rattle.listing.specs.Output.{numbersOf, printTree, lowerlist};
+ghost use Rattle.lister.specs.Lister.{treeListing};
+use codegen::Result;
+use codegen::lower;
+use diagnostics::Refusal;
+use listing::output::RESULT_WORDS;
+use listing::output::write_listing;
+use listing::text::Head;
+use listing::text::Header;
+use listing::text::read_text;
+use runtime::instruction::INSTRUCTION_WORDS;
+use runtime::value::CONSTANT_WORDS;
+use syntax::ast::NODE_WORDS;
+
+const WORD_BYTES: usize = 4;
+
+const NODE_BYTES: usize = WORD_BYTES * NODE_WORDS;
+
+// The buffers of the text's bounds: 512 nodes, 512 list words, 256 parameters.
+const NODES_BYTES: usize = NODE_BYTES * 512;
+
+const LIST_BYTES: usize = WORD_BYTES * 512;
+
+const NAMES_BYTES: usize = WORD_BYTES * 256;
+
+// The buffers of the lowering's: 2,048 instructions, 512 constants, 512 marks.
+const CODE_BYTES: usize = WORD_BYTES * INSTRUCTION_WORDS * 2048;
+
+const CONSTANTS_BYTES: usize = WORD_BYTES * CONSTANT_WORDS * 512;
+
+const MARKS_BYTES: usize = WORD_BYTES * 512;
+
+// The eight numbers, in the order in which they are printed.
+fn numbers_of(r: Result) -> [u32; RESULT_WORDS]
+    ensures { λ n. ⌜ n ≡ numbersOf (numbers r) ⌝ }
+{
+    [
+        r.number,
+        r.place,
+        r.start,
+        r.end,
+        r.instructions,
+        r.constants,
+        r.frame_size,
+        r.arity,
+    ]
+}
+
+// Lowers a tree and prints what that leaves. How many bytes that is; those past the end of `out` are left out.
+fn list_tree(nodes: &[u8], root: u32, mode: u32, list: &[u8], names: &[u8], out: &mut [u8]) -> usize
+    ensures bytes { λ _. ⌜ now (out .exit) ≡ sets (now (out .entry)) 0 (treeListing (now (nodes .entry)) root mode (now (list .entry)) (now (names .entry))) ⌝ }
+    ensures length { λ r. ⌜ r ≡ length (treeListing (now (nodes .entry)) root mode (now (list .entry)) (now (names .entry))) ⌝ }
+{
+    let mut code = [0u8; CODE_BYTES];
+    let mut constants = [0u8; CONSTANTS_BYTES];
+    let mut marks = [0u8; MARKS_BYTES];
+    let r = lower(
+        nodes,
+        root,
+        mode,
+        list,
+        names,
+        &mut code,
+        &mut constants,
+        &mut marks,
+    );
+    let numbers = numbers_of(r);
+    write_listing(out, &numbers, &code, &constants)
+}
+
+// The same of the tree that a header tells of, at the start of each buffer.
+fn list_good(h: Header, nodes: &[u8], list: &[u8], names: &[u8], out: &mut [u8]) -> usize
+    requires { ⌜ 24 * h .nodes ≤ length (now nodes) ⌝ }
+    requires { ⌜ 4 * h .list ≤ length (now list) ⌝ }
+    requires { ⌜ 4 * h .names ≤ length (now names) ⌝ }
+    ensures bytes { λ _. ⌜ now (out .exit) ≡ sets (now (out .entry)) 0 (treeListing (take (24 * h .nodes) (now (nodes .entry))) (h .root) (h .mode) (take (4 * h .list) (now (list .entry))) (take (4 * h .names) (now (names .entry)))) ⌝ }
+    ensures length { λ r. ⌜ r ≡ length (treeListing (take (24 * h .nodes) (now (nodes .entry))) (h .root) (h .mode) (take (4 * h .list) (now (list .entry))) (take (4 * h .names) (now (names .entry)))) ⌝ }
+{
+    let nodes_end = NODE_BYTES * (h.nodes as usize);
+    let list_end = WORD_BYTES * (h.list as usize);
+    let names_end = WORD_BYTES * (h.names as usize);
+    list_tree(
+        &nodes[..nodes_end],
+        h.root,
+        h.mode,
+        &list[..list_end],
+        &names[..names_end],
+        out,
+    )
+}
+
+// Text laid out otherwise or past the bounds: number 1 and zeros.
+fn list_bad(out: &mut [u8]) -> usize
+    ensures bytes { λ _. ⌜ now (out .exit) ≡ sets (now (out .entry)) 0 (printTree none) ⌝ }
+    ensures length { λ r. ⌜ r ≡ length (printTree none) ⌝ }
+{
+    let refusal = Refusal::Size;
+    let mut numbers = [0u32; RESULT_WORDS];
+    numbers[0] = refusal.number();
+    let nothing = [0u8; 0];
+    write_listing(out, &numbers, &nothing, &nothing)
+}
+
+// Prints the listing of a text, whatever its bytes are. How many bytes that is; those past the end of `out` are left out.
+pub fn list(text: &[u8], out: &mut [u8]) -> usize
+    ensures bytes { λ _. ⌜ now (out .exit) ≡ sets (now (out .entry)) 0 (lowerlist (now (text .entry))) ⌝ }
+    ensures length { λ r. ⌜ r ≡ length (lowerlist (now (text .entry))) ⌝ }
+{
+    let mut nodes = [0u8; NODES_BYTES];
+    let mut list = [0u8; LIST_BYTES];
+    let mut names = [0u8; NAMES_BYTES];
+    let head = read_text(text, &mut nodes, &mut list, &mut names);
+    match head {
+        Head::Good(h) => list_good(h, &nodes, &list, &names, out),
+        Head::Bad => list_bad(out),
+    }
+}
