@@ -1,11 +1,13 @@
--- What the program prints: of a tree in slices, by what lowering leaves; of a good text, by the bytes that reading leaves; and that its output buffer
--- holds every listing. Assumes nothing.
+-- What the program prints: of a tree in slices, by what lowering leaves; of a good text, by the bytes that reading leaves; that its output buffer holds
+-- every listing; and that a text cut behind the longest good one prints what the whole text does. Assumes nothing.
 use mathlib.Core.Path.{_≡_, refl, sym, ap, _∙_}
 use mathlib.Core.List.{List, [], _∷_, _++_}
 use mathlib.Core.Option.{none}
 use Prim.Native.Nat.{ℕ, zero, suc, _+_, _*_, _≤_, _<_}
 use native.Mathlib.Omega.{arith}
-use lib.ListN.{length, getD, take, replicate, length-replicate}
+use native.Mathlib.Decide.{decLt}
+use lib.ListN.{length, take, drop, replicate, length-replicate}
+use lib.Seq.{sets, sets-eq, take-at, take-all, length-take-le}
 use Rattle.words.specs.Words.{words, tail, bytesOf}
 use Rattle.words.specs.Records.{capacity}
 use Rattle.syntax.specs.Ast.{nodeWidth}
@@ -22,6 +24,7 @@ use Rattle.listing.specs.declared.text.Head.{Head}
 use Rattle.listing.specs.Text.{maxNodes, maxListWords, maxParameters, listWidth, nameWidth, readHeader, readNodes, readList, readNames, readText, filled}
 use Rattle.listing.specs.Output.{maxInstructions, maxConstants, maxMarks, numbersOf, printed, listing, printTree, lowerlist}
 use Rattle.listing.proofs.Written.{printed-length}
+use Rattle.listing.proofs.Only.{text-only}
 use Rattle.listing.proofs.Program.{zero-words, length-zeros, text-bounds, nodes-bytes, list-bytes, names-bytes, lowered-prints, good-prints, bad-prints}
 use Rattle.lister.specs.Lister.{treeListing}
 
@@ -135,3 +138,37 @@ length-lowerlist s = go (readText s) refl
           code-capacity maxInstructions,
           constants-capacity maxConstants,
         ))
+
+-- a count of bytes that were printed, and a buffer of so many bytes
+pub listing-room : (s : List ℕ) {r n : ℕ} → r ≡ length (lowerlist s) → n ≡ listingBytes → r ≤ n
+listing-room s e f = omega (arith, length-lowerlist s)
+
+-- the bytes at the start of such a buffer are the whole listing
+pub listed : (s out : List ℕ) {r : ℕ} {printed : List ℕ} → r ≡ length (lowerlist s) → printed ≡ sets out 0 (lowerlist s) → length out ≡ listingBytes
+    → take r printed ≡ lowerlist s
+listed s out e f size =
+    let split = sets-eq (lowerlist s) out 0 (omega (arith, length-lowerlist s)) in
+    rw (f, split) (take-at (lowerlist s) (drop (0 + length (lowerlist s)) out) _ (sym e))
+
+-- ---- the input
+
+-- "512 nodes, 512 list words, 256 parameters": the bytes of the longest good text
+abbrev pub longestText : ℕ
+longestText = 56 + 67 * maxNodes + 12 * maxListWords + 12 * maxParameters
+
+pub long-bad : (s : List ℕ) → longestText < length s → readText s ≡ Head.Bad
+long-bad s l = go (readText s) refl
+  where
+    go : (head : Head) → readText s ≡ head → readText s ≡ Head.Bad
+    go Head.Bad e = e
+    go (Head.Good h) e = let t = text-bounds s h e in absurd (omega (arith, t .0, t .1, t .2, text-only s h e .header .size))
+
+-- a text cut anywhere behind that is as bad as it was whole
+pub cut-text : (s : List ℕ) (n : ℕ) → longestText < n → lowerlist (take n s) ≡ lowerlist s
+cut-text s n l = go (decLt n (length s))
+  where
+    go : Dec (n < length s) → lowerlist (take n s) ≡ lowerlist s
+    go (yes h) =
+        let size = length-take-le n s (omega arith) in
+        bad-prints (take n s) [] [] (long-bad (take n s) (omega (arith, size))) ∙ sym (bad-prints s [] [] (long-bad s (omega arith)))
+    go (no h) = ap lowerlist (take-all n s (omega arith))

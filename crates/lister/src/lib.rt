@@ -10,6 +10,7 @@ ghost use Rattle.lister.specs.Lister.{treeListing};
 use codegen::Result;
 use codegen::lower;
 use diagnostics::Refusal;
+use listing::column::COLUMN_BYTES;
 use listing::output::RESULT_WORDS;
 use listing::output::write_listing;
 use listing::text::Head;
@@ -19,23 +20,60 @@ use runtime::instruction::INSTRUCTION_WORDS;
 use runtime::value::CONSTANT_WORDS;
 use syntax::ast::NODE_WORDS;
 
+// The bounds of a text, and of what its lowering may make.
+const MAX_NODES: usize = 512;
+
+const MAX_LIST_WORDS: usize = 512;
+
+const MAX_PARAMETERS: usize = 256;
+
+const MAX_INSTRUCTIONS: usize = 2048;
+
+const MAX_CONSTANTS: usize = 512;
+
+const MAX_MARKS: usize = 512;
+
+// The buffers.
 const WORD_BYTES: usize = 4;
 
 const NODE_BYTES: usize = WORD_BYTES * NODE_WORDS;
 
-// The buffers of the text's bounds: 512 nodes, 512 list words, 256 parameters.
-const NODES_BYTES: usize = NODE_BYTES * 512;
+const NODES_BYTES: usize = NODE_BYTES * MAX_NODES;
 
-const LIST_BYTES: usize = WORD_BYTES * 512;
+const LIST_BYTES: usize = WORD_BYTES * MAX_LIST_WORDS;
 
-const NAMES_BYTES: usize = WORD_BYTES * 256;
+const NAMES_BYTES: usize = WORD_BYTES * MAX_PARAMETERS;
 
-// The buffers of the lowering's: 2,048 instructions, 512 constants, 512 marks.
-const CODE_BYTES: usize = WORD_BYTES * INSTRUCTION_WORDS * 2048;
+const CODE_BYTES: usize = WORD_BYTES * INSTRUCTION_WORDS * MAX_INSTRUCTIONS;
 
-const CONSTANTS_BYTES: usize = WORD_BYTES * CONSTANT_WORDS * 512;
+const CONSTANTS_BYTES: usize = WORD_BYTES * CONSTANT_WORDS * MAX_CONSTANTS;
 
-const MARKS_BYTES: usize = WORD_BYTES * 512;
+const MARKS_BYTES: usize = WORD_BYTES * MAX_MARKS;
+
+// The lines of a text and of a listing: a column for each word, and a line feed.
+const HEADER_WORDS: usize = 5;
+
+const WORD_LINE: usize = COLUMN_BYTES + 1;
+
+const HEADER_LINE: usize = COLUMN_BYTES * HEADER_WORDS + 1;
+
+const NODE_LINE: usize = COLUMN_BYTES * NODE_WORDS + 1;
+
+const RESULT_LINE: usize = COLUMN_BYTES * RESULT_WORDS + 1;
+
+const INSTRUCTION_LINE: usize = COLUMN_BYTES * INSTRUCTION_WORDS + 1;
+
+const CONSTANT_LINE: usize = COLUMN_BYTES * CONSTANT_WORDS + 1;
+
+// The longest good text, and the longest listing.
+pub const TEXT_BYTES: usize = HEADER_LINE
+    + NODE_LINE * MAX_NODES
+    + WORD_LINE * MAX_LIST_WORDS
+    + WORD_LINE * MAX_PARAMETERS;
+
+pub const LISTING_BYTES: usize = RESULT_LINE
+    + INSTRUCTION_LINE * MAX_INSTRUCTIONS
+    + CONSTANT_LINE * MAX_CONSTANTS;
 
 // The eight numbers, in the order in which they are printed.
 fn numbers_of(r: Result) -> [u32; RESULT_WORDS]

@@ -6,6 +6,7 @@ ghost use lib.ListN.{length};
 ghost use Rattle.listing.specs.Output.{lowerlist};
 use check::same;
 use libc::STDOUT_FILENO;
+use lister::LISTING_BYTES;
 use lister::list;
 use listing::column::COLUMN_BYTES;
 use listing::column::Column;
@@ -14,9 +15,6 @@ use listing::text::LINE_FEED;
 
 // More than the record has. A record that fills it is cut, and its last cases do not agree.
 const RECORD_BYTES: usize = 1572864;
-
-// The longest listing: the result, 2,048 instructions and 512 constants.
-const LISTING_BYTES: usize = 89 + 45 * 2048 + 34 * 512;
 
 // The columns of a case's first line that say how long its text and its answer are.
 const TEXT_COLUMN: usize = 2;

@@ -1,19 +1,12 @@
 -- `lowerlist::main` is safe and ends: its output buffer holds every listing. Assumes nothing.
-use mathlib.Core.Path.{_≡_, sym, _∙_}
-use mathlib.Core.List.{List}
-use Prim.Native.Nat.{ℕ, _≤_}
-use native.Mathlib.Omega.{arith}
-use lib.ListN.{length, length-replicate}
+use mathlib.Core.Path.{sym, _∙_}
+use Prim.Native.Nat.{ℕ}
+use lib.ListN.{length-replicate}
 use lib.Seq.{length-take-le}
-use Rattle.listing.specs.Output.{lowerlist}
-use Rattle.lister.proofs.Laws.{listingBytes, length-lowerlist}
+use Rattle.lister.proofs.Laws.{listingBytes, listing-room}
 use borrow.Author.Needs.{needs}
 use Rattle.lowerlist.proofs.main.Statement.{statement}
 use Rattle.lowerlist.proofs.main.Tie as tie
-
--- the bytes that are printed, and those of the buffer
-room : (s : List ℕ) {r n : ℕ} → r ≡ length (lowerlist s) → n ≡ listingBytes → r ≤ n
-room s e f = omega (arith, length-lowerlist s)
 
 slice-aggregate-read-full : tie.Need-slice-aggregate-read-full
 slice-aggregate-read-full c = search needs
@@ -36,12 +29,12 @@ list-requires c κs = search needs
 array-share-prefix-out : tie.Need-array-share-prefix-out
 array-share-prefix-out c =
     let size = c .before .list .kept .1 .0 ∙ length-replicate {A = ℕ} listingBytes 0 in
-    room _ (c .before .list .ensures .1) size
+    listing-room _ (c .before .list .ensures .1) size
 
 slice-aggregate-write-all : tie.Need-slice-aggregate-write-all
 slice-aggregate-write-all c =
     let size = c .before .before .list .kept .1 .0 ∙ length-replicate {A = ℕ} listingBytes 0 in
-    sym (length-take-le _ _ (room _ (c .before .before .list .ensures .1) size))
+    sym (length-take-le _ _ (listing-room _ (c .before .before .list .ensures .1) size))
 
 write-all-requires : tie.Need-write-all-requires
 write-all-requires c κs = search needs
