@@ -3,11 +3,12 @@
 use crate::{
     generate::number_words,
     plain::Prepared,
-    port::{self, Asked},
+    port::{Asked, Port},
     reference::reference,
-    tree::{Input, Room, Tree, kind, operator},
+    tree::{ABSENT, Answer, Input, Room, Tree, kind, operator},
 };
 use std::{
+    fmt,
     hint::black_box,
     time::{Duration, Instant},
 };
@@ -15,20 +16,31 @@ use std::{
 /// Sizes in nodes.
 pub const SIZES: [usize; 3] = [16, 256, 4096];
 
-/// How long one batch of lowerings takes at least, and how many batches there are; the fastest counts.
-const BATCH: Duration = Duration::from_millis(4);
-const BATCHES: usize = 25;
+/// How long one batch of lowerings takes at least, and how many batches there are unless said; the fastest counts.
+const BATCH: Duration = Duration::from_millis(1);
+pub const ROUNDS: usize = 100;
 
-/// Different literals where there are few.
+/// What the port may take in a cell, over kaori's time, for `clock --check`.
+pub const MOST_RATIO: f64 = 1.3;
+
+/// Different literals and property names where there are few.
 const FEW: usize = 4;
 
-/// Parameters of every tree.
+/// Parameters of a tree; and of a tree of many names.
 const PARAMETERS: u32 = 8;
+const MANY_PARAMETERS: u32 = 200;
+
+/// From one name to the next, in parameters. It shares no factor with 8 or 200, so every parameter is met.
+const STEP: usize = 73;
 
 #[derive(Clone, Copy, Debug, PartialEq, Eq)]
 pub enum Form {
     Deep,
     Bushy,
+    Calls,
+    Maps,
+    Properties,
+    Names,
 }
 
 #[derive(Clone, Copy, Debug, PartialEq, Eq)]
@@ -37,74 +49,120 @@ pub enum Constants {
     Many,
 }
 
-pub struct Timing {
+/// One tree that is timed.
+#[derive(Clone, Copy, Debug, PartialEq, Eq)]
+pub struct Row {
     pub nodes: usize,
     pub form: Form,
     pub constants: Constants,
+}
+
+impl fmt::Display for Row {
+    fn fmt(&self, f: &mut fmt::Formatter) -> fmt::Result {
+        let [form, constants] = [format!("{:?}", self.form), format!("{:?}", self.constants)];
+        write!(f, "{:>5}  {:<10}  {:<4}", self.nodes, form.to_lowercase(), constants.to_lowercase())
+    }
+}
+
+/// The cells that `clock --check` looks at: every size, deep and bushy, few constants and many.
+pub fn cells() -> Vec<Row> {
+    let forms = [Form::Deep, Form::Bushy];
+    let cells = SIZES.into_iter().flat_map(|nodes| forms.map(|form| (nodes, form)));
+    cells
+        .flat_map(|(nodes, form)| [Constants::Few, Constants::Many].map(|constants| Row { nodes, form, constants }))
+        .collect()
+}
+
+/// The cells; then the kinds that they do not have, and names among many parameters, with few constants.
+pub fn rows() -> Vec<Row> {
+    let forms = [Form::Calls, Form::Maps, Form::Properties, Form::Names];
+    let others = forms.into_iter().flat_map(|form| SIZES.map(|nodes| Row { nodes, form, constants: Constants::Few }));
+    cells().into_iter().chain(others).collect()
+}
+
+pub struct Timing {
     /// What was made.
     pub instructions: u32,
     pub pooled: u32,
-    /// Nanoseconds a lowering: the port, kaori over vectors that keep their room, kaori over new ones.
-    pub port: f64,
+    /// Nanoseconds a node: kaori over vectors that keep their room, kaori over new ones, and each port.
     pub kaori_kept: f64,
     pub kaori_new: f64,
+    pub ports: Vec<f64>,
 }
 
 impl Timing {
     /// Below 1 the port is the faster. kaori at its best: its vectors have room from the lowering before.
-    pub fn ratio(&self) -> f64 {
-        self.port / self.kaori_kept.min(self.kaori_new)
+    pub fn ratios(&self) -> Vec<f64> {
+        let kaori = self.kaori_kept.min(self.kaori_new);
+        self.ports.iter().map(|port| port / kaori).collect()
     }
 }
 
-/// Every size, form and number of constants.
-pub fn timings(mut each: impl FnMut(&Timing)) {
-    for nodes in SIZES {
-        for form in [Form::Deep, Form::Bushy] {
-            for constants in [Constants::Few, Constants::Many] {
-                each(&timing(nodes, form, constants));
+/// Who lowers.
+#[derive(Clone, Copy)]
+enum Side {
+    KaoriKept,
+    KaoriNew,
+    Port(Port),
+}
+
+/// How many lowerings a batch of it has, and nanoseconds a lowering in the fastest.
+struct Timed {
+    side: Side,
+    times: u32,
+    fastest: f64,
+}
+
+/// A call with just the room that it needs, and kaori's answer to it.
+fn asked(tree: &Tree) -> (Input, Answer) {
+    let wanted = reference(tree);
+    let input = tree.input(Room::records(wanted.code.len(), wanted.constants.len(), wanted.marks.len()));
+    let answer = wanted.answer(&input);
+    (input, answer)
+}
+
+impl Row {
+    /// Whether the port gives kaori's answer, all of it.
+    pub fn is_answered_by(self, port: Port) -> bool {
+        let (mut input, answer) = asked(&self.tree());
+        let result = lower(port, &mut input);
+        let Input { code, constants, marks, .. } = input;
+        Answer { result, code, constants, marks } == answer
+    }
+
+    /// A batch of each side in turn, as many rounds as said. What is slow for a while is slow for all.
+    pub fn timing(self, ports: &[Port], rounds: usize) -> Timing {
+        let tree = self.tree();
+        let (mut input, answer) = asked(&tree);
+        let [number, .., instructions, pooled, _, _] = answer.result;
+        let mut prepared = Prepared::new(&tree);
+        let mut run = |side| match side {
+            Side::KaoriKept => prepared.lower_kept(),
+            Side::KaoriNew => prepared.lower_new(),
+            Side::Port(port) => lower(port, &mut input)[4] as usize,
+        };
+        let sides = [Side::KaoriKept, Side::KaoriNew].into_iter().chain(ports.iter().copied().map(Side::Port));
+        let mut all: Vec<Timed> = sides
+            .map(|side| {
+                assert_eq!((number, run(side)), (0, instructions as usize), "the same work, all of it");
+                Timed { side, times: times_for(BATCH, &mut || run(side)), fastest: f64::INFINITY }
+            })
+            .collect();
+        for _ in 0..rounds {
+            for timed in &mut all {
+                timed.fastest = timed.fastest.min(batch(timed.times, &mut || run(timed.side)));
             }
         }
+        let mut a_node: Vec<f64> = all.iter().map(|timed| timed.fastest / self.nodes as f64).collect();
+        let ports = a_node.split_off(2);
+        Timing { instructions, pooled, kaori_kept: a_node[0], kaori_new: a_node[1], ports }
     }
 }
 
-pub fn timing(nodes: usize, form: Form, constants: Constants) -> Timing {
-    let tree = tree(nodes, form, constants);
-    assert!(tree.is_checked() && tree.nodes.len() == nodes, "a tree of {nodes} nodes");
-    let wanted = reference(&tree);
-    let mut input = tree.input(Room::records(wanted.code.len(), wanted.constants.len(), wanted.marks.len()));
-    let answer = wanted.answer(&input);
-    let mut prepared = Prepared::new(&tree);
-
-    // Both sides do the same work, and all of it.
-    assert_eq!(lower(&mut input)[..], answer.result[..]);
-    assert_eq!((&input.code, &input.constants, &input.marks), (&answer.code, &answer.constants, &answer.marks));
-    assert_eq!((answer.result[0], answer.result[4]), (0, prepared.lower_kept() as u32));
-    assert_eq!(answer.result[4], prepared.lower_new() as u32);
-
-    let mut fastest = [f64::INFINITY; 3];
-    let times = [
-        times_for(BATCH, &mut || lower(&mut input)[4] as usize),
-        times_for(BATCH, &mut || prepared.lower_kept()),
-        times_for(BATCH, &mut || prepared.lower_new()),
-    ];
-    for _ in 0..BATCHES {
-        let taken = [
-            batch(times[0], &mut || lower(&mut input)[4] as usize),
-            batch(times[1], &mut || prepared.lower_kept()),
-            batch(times[2], &mut || prepared.lower_new()),
-        ];
-        fastest.iter_mut().zip(taken).for_each(|(fastest, taken)| *fastest = fastest.min(taken));
-    }
-    let [port, kaori_kept, kaori_new] = fastest;
-    let [.., instructions, pooled, _, _] = answer.result;
-    Timing { nodes, form, constants, instructions, pooled, port, kaori_kept, kaori_new }
-}
-
-fn lower(input: &mut Input) -> [u32; 8] {
+fn lower(port: Port, input: &mut Input) -> [u32; 8] {
     let asked =
         Asked { nodes: &input.nodes, root: input.root, mode: input.mode, list: &input.list, names: &input.names };
-    port::lower_into(black_box(asked), &mut input.code, &mut input.constants, &mut input.marks)
+    port.lower_into(black_box(asked), &mut input.code, &mut input.constants, &mut input.marks)
 }
 
 /// How often to run for a batch of the given time.
@@ -128,20 +186,28 @@ fn batch(times: u32, run: &mut dyn FnMut() -> usize) -> f64 {
     started.elapsed().as_nanos() as f64 / times as f64
 }
 
-/// A tree that is accepted, of all operators and most kinds, with half its leaves literals.
-pub fn tree(nodes: usize, form: Form, constants: Constants) -> Tree {
-    let mut maker = Maker {
-        tree: Tree { names: (0..PARAMETERS).collect(), ..Tree::default() },
-        literals: if constants == Constants::Few { FEW } else { usize::MAX },
-        leaves: 0,
-        inner: 0,
-    };
-    let root = match form {
-        Form::Deep => maker.deep(nodes),
-        Form::Bushy => maker.bushy(nodes),
-    };
-    maker.tree.root = root;
-    maker.tree
+impl Row {
+    /// A tree that is accepted, with few or many literals among its leaves.
+    pub fn tree(self) -> Tree {
+        let parameters = if self.form == Form::Names { MANY_PARAMETERS } else { PARAMETERS };
+        let mut maker = Maker {
+            tree: Tree { names: (0..parameters).collect(), ..Tree::default() },
+            literals: if self.constants == Constants::Few { FEW } else { usize::MAX },
+            leaves: 0,
+            inner: 0,
+        };
+        let root = match self.form {
+            Form::Deep => maker.deep(self.nodes),
+            Form::Bushy => maker.bushy(self.nodes),
+            Form::Calls => maker.ands(self.nodes, Maker::call),
+            Form::Maps => maker.ands(self.nodes, Maker::map),
+            Form::Properties => maker.ands(self.nodes, Maker::properties),
+            Form::Names => maker.ands(self.nodes, Maker::names),
+        };
+        maker.tree.root = root;
+        assert!(maker.tree.is_checked() && maker.tree.nodes.len() == self.nodes, "a tree of {} nodes", self.nodes);
+        maker.tree
+    }
 }
 
 struct Maker {
@@ -160,7 +226,8 @@ impl Maker {
 
     fn name(&mut self) -> u32 {
         self.leaves += 1;
-        self.push([kind::NAME, self.leaves as u32 % PARAMETERS, 0, 0])
+        let parameter = self.leaves * STEP % self.tree.names.len();
+        self.push([kind::NAME, parameter as u32, 0, 0])
     }
 
     /// Numbers for the most part, and strings.
@@ -174,7 +241,7 @@ impl Maker {
     }
 
     fn leaf(&mut self) -> u32 {
-        if self.leaves % 2 == 0 { self.name() } else { self.literal() }
+        if self.leaves.is_multiple_of(2) { self.name() } else { self.literal() }
     }
 
     fn operator(&mut self) -> u32 {
@@ -220,6 +287,67 @@ impl Maker {
             };
         }
         below
+    }
+
+    /// Ands over each other, each with a part of its own on the right. The parts with their ands have 15 nodes in a
+    /// cycle of each form, so that 16, 256 and 4,096 nodes are a name and whole cycles.
+    fn ands(&mut self, nodes: usize, part: fn(&mut Maker, usize) -> u32) -> u32 {
+        let mut below = self.name();
+        for place in 0.. {
+            if self.tree.nodes.len() >= nodes {
+                break;
+            }
+            let beside = part(self, place);
+            below = self.push([kind::AND, below, beside, 0]);
+        }
+        below
+    }
+
+    /// Seven nodes, a call of a name with two literals and an operation; then six, with one literal.
+    fn call(&mut self, place: usize) -> u32 {
+        let callee = self.name();
+        let mut arguments: Vec<u32> = (0..2 - place % 2).map(|_| self.literal()).collect();
+        let operator = self.operator();
+        arguments.push(self.operation(operator));
+        let first = self.list(&arguments);
+        self.push([kind::CALL, callee, first, arguments.len() as u32])
+    }
+
+    /// Five nodes, a map from a name to a literal and from a literal to a name, twice; then two, with a name alone.
+    fn map(&mut self, place: usize) -> u32 {
+        let entries = match place % 3 {
+            2 => vec![self.name(), ABSENT],
+            _ => vec![self.name(), self.literal(), self.literal(), self.name()],
+        };
+        let first = self.list(&entries);
+        self.push([kind::MAP, first, entries.len() as u32 / 2, 0])
+    }
+
+    /// Three nodes, a property of a property of a name, three times; then two, a property of a name.
+    fn properties(&mut self, place: usize) -> u32 {
+        let mut object = self.name();
+        for _ in 0..if place % 4 == 3 { 1 } else { 2 } {
+            self.leaves += 1;
+            object = self.push([kind::PROPERTY, object, (self.leaves % self.literals) as u32, 0]);
+        }
+        object
+    }
+
+    /// Three nodes, an operator over two names, three times; then two, the negation of a name.
+    fn names(&mut self, place: usize) -> u32 {
+        let left = self.name();
+        if place % 4 == 3 {
+            return self.push([kind::NOT, left, 0, 0]);
+        }
+        let (right, operator) = (self.name(), self.operator());
+        self.push([kind::BINARY, operator, left, right])
+    }
+
+    /// Words put at the list's end: the place of the first.
+    fn list(&mut self, words: &[u32]) -> u32 {
+        let first = self.tree.list.len() as u32;
+        self.tree.list.extend(words);
+        first
     }
 
     /// Operators over two halves.

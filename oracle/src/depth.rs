@@ -2,7 +2,7 @@
 
 use crate::{
     generate::{self, CHAINS, LEVELS, Random},
-    port::{self, Asked},
+    port::{Asked, Port},
     tree::{MOST_NODES, Room, Tree},
 };
 use std::thread;
@@ -43,18 +43,18 @@ impl Shape {
         Shape { name: name.to_string(), trees: trees.into_iter().collect() }
     }
 
-    pub fn used(&self) -> Used {
+    pub fn used(&self, port: Port) -> Used {
         let used = self.trees.iter().map(|tree| {
-            let (number, bytes) = stack_used(tree);
+            let (number, bytes) = stack_used(port, tree);
             Used { bytes, number, nodes: tree.nodes.len() }
         });
         used.max_by_key(|used| used.bytes).expect("a tree")
     }
 
     /// Lowers each on a normal thread. A stack too small ends the process.
-    pub fn runs(&self) {
+    pub fn runs(&self, port: Port) {
         self.trees.iter().for_each(|tree| {
-            runs_on(THREAD_STACK, tree);
+            runs_on(port, THREAD_STACK, tree);
         });
     }
 }
@@ -82,8 +82,8 @@ pub fn shapes() -> Vec<Shape> {
 }
 
 /// The number that the port answers, and the bytes of stack below its caller's frame that it wrote to.
-pub fn stack_used(tree: &Tree) -> (u32, usize) {
-    on_thread(PAINTED + BESIDE, tree, |call| {
+pub fn stack_used(port: Port, tree: &Tree) -> (u32, usize) {
+    on_thread(port, PAINTED + BESIDE, tree, |call| {
         let here = 0u8;
         let top = (&raw const here).wrapping_sub(NEAR).cast_mut();
         // SAFETY: these bytes lie below every live frame, inside this thread's own stack.
@@ -95,12 +95,17 @@ pub fn stack_used(tree: &Tree) -> (u32, usize) {
 }
 
 /// The same call on a thread of the given stack. A stack too small ends the process.
-pub fn runs_on(stack: usize, tree: &Tree) -> u32 {
-    on_thread(stack, tree, |call| call())
+pub fn runs_on(port: Port, stack: usize, tree: &Tree) -> u32 {
+    on_thread(port, stack, tree, |call| call())
 }
 
 /// Buffers and slices are made outside of the thread: it has the call alone.
-fn on_thread<T: Send>(stack: usize, tree: &Tree, run: impl FnOnce(&mut dyn FnMut() -> u32) -> T + Send) -> T {
+fn on_thread<T: Send>(
+    port: Port,
+    stack: usize,
+    tree: &Tree,
+    run: impl FnOnce(&mut dyn FnMut() -> u32) -> T + Send,
+) -> T {
     let mut input = tree.input(Room::records(ROOM.0, ROOM.1, ROOM.2));
     thread::scope(|scope| {
         let input = &mut input;
@@ -112,7 +117,7 @@ fn on_thread<T: Send>(stack: usize, tree: &Tree, run: impl FnOnce(&mut dyn FnMut
                 list: &input.list,
                 names: &input.names,
             };
-            run(&mut || port::lower_into(asked, &mut input.code, &mut input.constants, &mut input.marks)[0])
+            run(&mut || port.lower_into(asked, &mut input.code, &mut input.constants, &mut input.marks)[0])
         });
         spawned.expect("a thread").join().expect("no panic")
     })

@@ -1,6 +1,12 @@
 //! The port, by its C-callable functions. A slice is two parameters, pointer and length.
 
 use crate::tree::{Answer, Input, words};
+use std::{
+    ffi::{CStr, CString, c_char, c_int, c_void},
+    fs, mem,
+    os::unix::ffi::OsStringExt,
+    path::Path,
+};
 
 unsafe extern "C" {
     fn sewurogi_lower(
@@ -23,6 +29,40 @@ unsafe extern "C" {
     );
 
     fn sewurogi_patch_jump(code: *mut u8, code_length: usize, count: u32, index: u32, offset: u32) -> u32;
+
+    // The C library's loader of shared objects.
+    fn dlopen(file: *const c_char, flags: c_int) -> *mut c_void;
+    fn dlsym(object: *mut c_void, name: *const c_char) -> *mut c_void;
+    fn dlerror() -> *const c_char;
+}
+
+/// Every symbol is looked up when the object is loaded, none at its first call.
+const RTLD_NOW: c_int = 2;
+
+/// The parameters of `sewurogi_lower`, as declared above.
+type Lower = unsafe extern "C" fn(
+    *const u8,
+    usize,
+    u32,
+    u32,
+    *const u8,
+    usize,
+    *const u8,
+    usize,
+    *mut u8,
+    usize,
+    *mut u8,
+    usize,
+    *mut u8,
+    usize,
+    *mut u8,
+    usize,
+);
+
+/// `sewurogi_lower`: of the archive that is linked, or of a shared object that has the port in another shape.
+#[derive(Clone, Copy)]
+pub struct Port {
+    lower: Lower,
 }
 
 /// What a call reads: three slices, the root and the mode.
@@ -35,31 +75,52 @@ pub struct Asked<'a> {
     pub names: &'a [u8],
 }
 
-/// The eight numbers; the buffers are written in place.
-pub fn lower_into(asked: Asked, code: &mut [u8], constants: &mut [u8], marks: &mut [u8]) -> [u32; 8] {
-    let mut result = [0xEE; 32];
-    // SAFETY: each pointer and length is a slice's, the three buffers are borrowed alone, and `result` has its 32 bytes.
-    unsafe {
-        sewurogi_lower(
-            asked.nodes.as_ptr(),
-            asked.nodes.len(),
-            asked.root,
-            asked.mode,
-            asked.list.as_ptr(),
-            asked.list.len(),
-            asked.names.as_ptr(),
-            asked.names.len(),
-            code.as_mut_ptr(),
-            code.len(),
-            constants.as_mut_ptr(),
-            constants.len(),
-            marks.as_mut_ptr(),
-            marks.len(),
-            result.as_mut_ptr(),
-            result.len(),
-        );
+impl Port {
+    pub const LINKED: Port = Port { lower: sewurogi_lower };
+
+    /// Of a shared object. It stays loaded to the end of the process.
+    pub fn load(path: &Path) -> Result<Port, String> {
+        // A name without a folder would be looked for among the system's libraries.
+        let file = fs::canonicalize(path).map_err(|error| format!("{}: {error}", path.display()))?;
+        let file = CString::new(file.into_os_string().into_vec()).expect("no 0 in a path");
+        // SAFETY: both strings end with a 0 and live through the calls. That the object's `sewurogi_lower` has the
+        // parameters above is the caller's word, as it is for the archive.
+        unsafe {
+            let object = dlopen(file.as_ptr(), RTLD_NOW);
+            let lower = if object.is_null() { object } else { dlsym(object, c"sewurogi_lower".as_ptr()) };
+            if lower.is_null() {
+                return Err(CStr::from_ptr(dlerror()).to_string_lossy().into_owned());
+            }
+            Ok(Port { lower: mem::transmute::<*mut c_void, Lower>(lower) })
+        }
     }
-    words(&result).try_into().unwrap()
+
+    /// The eight numbers; the buffers are written in place.
+    pub fn lower_into(self, asked: Asked, code: &mut [u8], constants: &mut [u8], marks: &mut [u8]) -> [u32; 8] {
+        let mut result = [0xEE; 32];
+        // SAFETY: each pointer and length is a slice's, the three buffers are borrowed alone, `result` has its 32 bytes.
+        unsafe {
+            (self.lower)(
+                asked.nodes.as_ptr(),
+                asked.nodes.len(),
+                asked.root,
+                asked.mode,
+                asked.list.as_ptr(),
+                asked.list.len(),
+                asked.names.as_ptr(),
+                asked.names.len(),
+                code.as_mut_ptr(),
+                code.len(),
+                constants.as_mut_ptr(),
+                constants.len(),
+                marks.as_mut_ptr(),
+                marks.len(),
+                result.as_mut_ptr(),
+                result.len(),
+            );
+        }
+        words(&result).try_into().unwrap()
+    }
 }
 
 /// Bytes on both sides of a buffer that must stay.
@@ -98,7 +159,7 @@ pub fn lower(input: &Input) -> Answer {
     let [mut code, mut constants, mut marks] = [&input.code, &input.constants, &input.marks].map(|b| Guarded::new(b));
     let asked =
         Asked { nodes: &input.nodes, root: input.root, mode: input.mode, list: &input.list, names: &input.names };
-    let result = lower_into(asked, code.buffer(), constants.buffer(), marks.buffer());
+    let result = Port::LINKED.lower_into(asked, code.buffer(), constants.buffer(), marks.buffer());
     Answer { result, code: code.after(), constants: constants.after(), marks: marks.after() }
 }
 

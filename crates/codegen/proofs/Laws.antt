@@ -12,16 +12,17 @@ use Rattle.diagnostics.specs.declared.Refusal.{Refusal}
 use Rattle.environment.specs.declared.RegisterSet.{RegisterSet}
 use Rattle.environment.specs.Environment.{parameters}
 use Rattle.syntax.specs.declared.ast.Node.{Node}
+use Rattle.lowering.specs.Checked.{Checked}
 use Rattle.lower_ast.specs.declared.Patched.{Patched}
 use Rattle.lower_ast.specs.Arguments.{seenDone}
 use Rattle.lowering.specs.declared.State.{State}
 use Rattle.lowering.specs.Tree.{Tree, treeOf, node}
 use Rattle.lowering.specs.Questions.{question8, passed, refused, questions}
 use Rattle.lowering.specs.Walk.{Made, made, Outcome, ends, stops, Walk, bind, ret}
-use Rattle.lowering.specs.Steps.{patchArguments}
+use Rattle.lowering.specs.Steps.{freeTemp, patchArguments}
 use Rattle.lowering.specs.Lower.{lowerExpression, lowerJumpIfFalse, lowerJumpIfTrue, jumpNode}
 use Rattle.lowering.specs.Result as definition
-use Rattle.lowering.proofs.Checked.{Checked, questions-passed}
+use Rattle.lowering.proofs.Checked.{questions-passed}
 use Rattle.lowering.proofs.Bound.{jump-false-at, jump-true-at}
 use Rattle.steps.specs.declared.answer.Answer.{Answer}
 use Rattle.steps.specs.declared.kinds.Condition.{Condition}
@@ -29,23 +30,23 @@ use Rattle.steps.specs.Answers.{seen, answered}
 use Rattle.steps.specs.Kinds.{conditionOf}
 use Rattle.steps.proofs.Chains.{seen-one-to-one}
 use Rattle.steps.proofs.Conditions.{jumpBy, jump-by}
-use Rattle.lower_expression.specs.Ready.{Ready}
+use Rattle.codegen.specs.Ready.{Ready}
 use Rattle.codegen.specs.Numbers.{refusedResult, resultOf, conditional}
 use Rattle.codegen.proofs.Lent.{lent-words, lent-back}
 
 -- a condition that was read
 pub jump-of : (t : Tree) (i : ℕ) (sense : Bool) {kind : Node} {condition is : Condition} → kind ≡ node t i → condition ≡ conditionOf kind → condition ≡ is →
-    (m : Made) {r : Outcome Answer} → answered Answer.Place (jumpBy t (lowerExpression t) sense (lowerExpression t i) is m) ≡ r →
-    answered Answer.Place (jumpNode t (lowerExpression t) sense (lowerExpression t i) (node t i) m) ≡ r
-jump-of t i sense read told same m q = rw (jump-by t (lowerExpression t) sense (lowerExpression t i) (node t i), ← read, ← told, same) q
+    (m : Made) {r : Outcome Answer} → answered Answer.Place (jumpBy t (lowerExpression freeTemp t) sense (lowerExpression freeTemp t i) is m) ≡ r →
+    answered Answer.Place (jumpNode t (lowerExpression freeTemp t) sense (lowerExpression freeTemp t i) (node t i) m) ≡ r
+jump-of t i sense read told same m q = rw (jump-by t (lowerExpression freeTemp t) sense (lowerExpression freeTemp t i) (node t i), ← read, ← told, same) q
 
 -- the root, by its mode
 module _ {t : Tree} (checked : Checked t) (root : ℕ) (m : Made) {r : Outcome Answer} where
-  pub mode-false : answered Answer.Place (conditional t false root m) ≡ r → answered Answer.Place (definition.lowerRoot t 1 root m) ≡ r
+  pub mode-false : answered Answer.Place (conditional t false root m) ≡ r → answered Answer.Place (definition.lowerRoot freeTemp t 1 root m) ≡ r
   unfolding definition.lowerRoot
   mode-false q = rw (jump-false-at checked root) q
 
-  pub mode-true : (mode : ℕ) → 1 < mode → answered Answer.Place (conditional t true root m) ≡ r → answered Answer.Place (definition.lowerRoot t mode root m) ≡ r
+  pub mode-true : (mode : ℕ) → 1 < mode → answered Answer.Place (conditional t true root m) ≡ r → answered Answer.Place (definition.lowerRoot freeTemp t mode root m) ≡ r
   unfolding definition.lowerRoot
   mode-true zero h q = absurd (omega arith)
   mode-true (suc zero) h q = absurd (omega arith)
@@ -109,7 +110,7 @@ module _ (nodes list names : List ℕ) (mode root : ℕ) where
 
     module _ {code c constants p marks m : List ℕ} {nc np nm : ℕ} (lc : Lent code c nc) (lp : Lent constants p np) (lm : Lent marks m nm)
         (arity : ℕ) (h : arity ≡ length names / 4) (registers : RegisterSet) (fresh : registers ≡ parameters arity) (s : State) (a : Answer)
-        (e : answered Answer.Place (definition.lowerRoot (treeOf nodes list names) mode root
+        (e : answered Answer.Place (definition.lowerRoot freeTemp (treeOf nodes list names) mode root
         (made (words (take nc code)) (words (take np constants)) (words (take nm marks)) (record { registers = registers; instructions = 0; constants = 0; marks = 0 })))
         ≡ seen (made (words c) (words p) (words m) s) a) where
       whole : definition.lower nodes root mode list names (words code) (words constants) (words marks)

@@ -2,48 +2,33 @@
 -- there are at most as many as nodes that the root reaches. Assumes nothing.
 use Prim.Native.Nat.{ℕ, _≤_, _<_}
 use native.Mathlib.Omega.{arith}
-use mathlib.Core.Path.{_≡_, sym, _∙_}
-use mathlib.Core.Logic.{_≢_, _⊎_, inl, inr}
+use native.Mathlib.Decide.{decLt}
+use mathlib.Core.Path.{_≡_, sym, ap, _∙_, subst}
+use mathlib.Core.Logic.{_⊎_, inl, inr}
 use mathlib.Core.List.{List}
 use Rattle.words.specs.Records.{recordAt}
 use Rattle.words.proofs.Records.{record-same}
 use Rattle.runtime.specs.declared.operand.Operand.{Operand}
 use Rattle.runtime.specs.Value.{constantWords}
 use Rattle.lowering.specs.Tree.{Tree, treeOf}
+use Rattle.lowering.specs.Checked.{AllYes}
 use Rattle.lowering.specs.Reach.{reachedNodes}
-use Rattle.lowering.specs.Walk.{Made, Outcome, Walk}
-use Rattle.lowering.specs.Result.{Lowered, lowerRoot, lower}
+use Rattle.lowering.specs.Walk.{Made, Outcome, Walk, left}
+use Rattle.lowering.specs.Steps.{freeTemp}
+use Rattle.lowering.specs.Result.{Lowered, begin, lowerRoot, lower}
+use Rattle.lowering.specs.Trace.{Runs, step, returns, follows, halts, reads, counts, takes, gives, leaves, emits, finds, pools, patches, marks, moves, refuses, constantsOf}
+use Rattle.lowering.specs.Answers.{start}
+use Rattle.lowering.specs.Pool.{Fit, Stores, First, Pool}
 use Rattle.lowering.proofs.Decode.{constant-length}
-use Rattle.lowering.proofs.Checked.{AllYes}
-use Rattle.lowering.proofs.Trace.{Runs, step, returns, follows, halts, reads, counts, takes, gives, leaves, emits, finds, pools, patches, marks, moves, refuses, constantsOf}
-use Rattle.lowering.proofs.Everywhere.{left}
 use Rattle.lowering.proofs.Pooling.{runs-pool}
-use Rattle.lowering.proofs.Came.{Came, before, accepted, stopped, lower-came, start, few-names, first-number}
-use Rattle.lowering.proofs.Reached.{Fit, nothing-cut, pool-adds-reached}
+use Rattle.lowering.proofs.Came.{Came, before, accepted, stopped, lower-came, few-names, first-number}
+use Rattle.lowering.proofs.Reached.{nothing-cut, pool-adds-reached}
 
 -- a constant stands at an index of what was made
 abbrev pub Stands : Made → Operand → ℕ → Type 0
 Stands m c p = (p < constantsOf m) × (recordAt 3 (m .constants) p ≡ constantWords c)
 
 module _ {t : Tree} {root : ℕ} where
-  -- P of every constant for which a run asks, and of the index that it is given
-  abbrev pub Stores : (P : Operand → ℕ → Type 0) {A : Type 0} {w : Walk A} {m : Made} {o : Outcome A} → Runs t root A w m o → Type 0
-  Stores P (step (finds c {p = p} l e f)) = P c p
-  Stores P (step (pools {m = m} {c = c} o f h)) = P c (constantsOf m)
-  Stores P (step (takes k)) = Unit {0}
-  Stores P (step (gives r h)) = Unit {0}
-  Stores P (step (leaves r)) = Unit {0}
-  Stores P (step (emits i f l h)) = Unit {0}
-  Stores P (step (patches j l k)) = Unit {0}
-  Stores P (step (marks i start end z h)) = Unit {0}
-  Stores P (step (moves place l k b)) = Unit {0}
-  Stores P (step (refuses o)) = Unit {0}
-  Stores P returns = Unit {0}
-  Stores P (follows k a b) = Stores P a × Stores P b
-  Stores P (halts k a) = Stores P a
-  Stores P (reads k a) = Stores P a
-  Stores P (counts a) = Stores P a
-
   stays : {A : Type 0} {w : Walk A} {m : Made} {o : Outcome A} → Runs t root A w m o → (c : Operand) (p : ℕ) → Stands m c p → Stands (left o) c p
   stays r c p h = let g = runs-pool t root r in (omega (arith, g .more, h .0), g .kept p (h .0) ∙ h .1)
 
@@ -61,44 +46,71 @@ module _ {t : Tree} {root : ℕ} where
     stored (step (patches j l k)) h = tt
     stored (step (marks i start end z k)) h = tt
     stored (step (moves place l k b)) h = tt
-    stored (step (refuses o)) h = tt
+    stored (step (refuses q o)) h = tt
     stored returns h = tt
     stored (follows k a b) h = (stored a (λ c p s. h c p (stays b c p s)), stored b h)
     stored (halts k a) h = stored a h
     stored (reads k a) h = stored a h
     stored (counts a) h = stored a h
 
+    -- every constant that a run adds is one for which it asks
+    pub each-stored : {A : Type 0} {w : Walk A} {m : Made} {o : Outcome A} (r : Runs t root A w m o) → Stores P r → (p : ℕ) → constantsOf m ≤ p → p < constantsOf (left o) →
+        (c : Operand) × P c p × (recordAt 3 (left o .constants) p ≡ constantWords c)
+    unfolding left
+    each-stored (step (finds c l e f)) s p a b = absurd (omega arith)
+    each-stored (step (pools {m = m} {c = c} o f l)) s p a b =
+        let same : p ≡ constantsOf m = omega arith in
+        (c, subst (λ x. P c x) (sym same) s, rw same (record-same 3 (m .constants) (constantsOf m) (constantWords c) (constant-length c) l))
+    each-stored (step (takes k)) s p a b = absurd (omega arith)
+    each-stored (step (gives r k)) s p a b = absurd (omega arith)
+    each-stored (step (leaves r)) s p a b = absurd (omega arith)
+    each-stored (step (emits i f l k)) s p a b = absurd (omega arith)
+    each-stored (step (patches j l k)) s p a b = absurd (omega arith)
+    each-stored (step (marks i start end z k)) s p a b = absurd (omega arith)
+    each-stored (step (moves place l k h)) s p a b = absurd (omega arith)
+    each-stored (step (refuses q o)) s p a b = absurd (omega arith)
+    each-stored returns s p a b = absurd (omega arith)
+    each-stored {o = o} (follows k {n = n} x y) s p a b = go (decLt p (constantsOf n)) (λ l. each-stored x (s .0) p a l) (λ l. each-stored y (s .1) p l b)
+      where
+        go : Dec (p < constantsOf n) → (p < constantsOf n → (c : Operand) × P c p × (recordAt 3 (n .constants) p ≡ constantWords c)) →
+            (constantsOf n ≤ p → (c : Operand) × P c p × (recordAt 3 (left o .constants) p ≡ constantWords c)) →
+            (c : Operand) × P c p × (recordAt 3 (left o .constants) p ≡ constantWords c)
+        go (yes l) f g = let h = f l in (h .0, h .1, stays y (h .0) p (l, h .2) .1)
+        go (no l) f g = g (omega arith)
+    each-stored (halts k x) s p a b = each-stored x s p a b
+    each-stored (reads k x) s p a b = each-stored x s p a b
+    each-stored (counts x) s p a b = each-stored x s p a b
+
 -- ---- of `lower`
 
 module _ (nodes : List ℕ) (root mode : ℕ) (list names code constants marks : List ℕ) where
-  -- a constant stands at an index of what is left, and at no earlier one
-  abbrev pub First : Lowered → Operand → ℕ → Type 0
-  First l c p = (p < l .result .constants) × (recordAt 3 (l .constants) p ≡ constantWords c) × ((q : ℕ) → q < p → recordAt 3 (l .constants) q ≢ constantWords c)
-
-  -- The walk, and every constant for which it asks: its index is the first place with its words, and there it stays.
-  pub record Pool (l : Lowered) : Type 1 where
-    pub outcome : Outcome ℕ
-    pub run : Runs (treeOf nodes list names) root ℕ (lowerRoot (treeOf nodes list names) mode root) (start nodes root mode list names code constants marks) outcome
-    pub first-place : Stores (First l) run
+  -- so every constant that the walk leaves stands at exit
+  pub pool-shows : {l : Lowered} → Pool nodes root mode list names code constants marks l → (p : ℕ) →
+      p < constantsOf (left (lowerRoot freeTemp (treeOf nodes list names) mode root (start nodes root mode list names code constants marks))) →
+      recordAt 3 (l .constants) p ≡ recordAt 3 (left (lowerRoot freeTemp (treeOf nodes list names) mode root (start nodes root mode list names code constants marks)) .constants) p
+  unfolding begin
+  pool-shows {l} x p h =
+      let e = each-stored (First l) (x .run) (x .first-place) p (omega arith) (subst (λ o. p < constantsOf (left o)) (x .is) h) in
+      e .1 .1 ∙ sym (e .2) ∙ ap (λ o. recordAt 3 (left o .constants) p) (sym (x .is))
 
   first-of : {l : Lowered} → Fit nodes root mode list names code constants marks l → (c : Operand) (p : ℕ) → p < l .result .constants →
       recordAt 3 (l .constants) p ≡ constantWords c → First l c p
   first-of f c p h e = (h, e, λ q k z. f .distinct q p k h (z ∙ sym e))
 
   pooling : {l : Lowered} → Came nodes root mode list names code constants marks l → Fit nodes root mode list names code constants marks l →
-      (l .result .number ≡ 0) ⊎ (9 ≤ l .result .number) → Pool l
+      (l .result .number ≡ 0) ⊎ (9 ≤ l .result .number) → Pool nodes root mode list names code constants marks l
   unfolding left
   pooling (before h) f (inl e) = absurd (omega (arith, first-number h .0))
   pooling (before h) f (inr e) = absurd (omega (arith, first-number h .1))
-  pooling {l = l} (accepted y q r) f e = record { outcome = _; run = r; first-place = stored (First l) r (λ c p s. first-of f c p (s .0) (s .1)) }
-  pooling {l = l} (stopped y q r o) f e = record { outcome = _; run = r; first-place = stored (First l) r (λ c p s. first-of f c p (s .0) (s .1)) }
+  pooling {l = l} (accepted y q r) f e = record { outcome = _; is = q; run = r; first-place = stored (First l) r (λ c p s. first-of f c p (s .0) (s .1)) }
+  pooling {l = l} (stopped y q r o) f e = record { outcome = _; is = q; run = r; first-place = stored (First l) r (λ c p s. first-of f c p (s .0) (s .1)) }
 
   pub pool-first : (lower nodes root mode list names code constants marks .result .number ≡ 0) ⊎ (9 ≤ lower nodes root mode list names code constants marks .result .number) →
-      Pool (lower nodes root mode list names code constants marks)
+      Pool nodes root mode list names code constants marks (lower nodes root mode list names code constants marks)
   pool-first = pooling (lower-came nodes root mode list names code constants marks) (nothing-cut nodes root mode list names code constants marks)
 
   -- At most as many constants as there are distinct nodes that the root reaches.
-  walk-few : AllYes nodes list names mode root → (o : Outcome ℕ) → lowerRoot (treeOf nodes list names) mode root (start nodes root mode list names code constants marks) ≡ o →
+  walk-few : AllYes nodes list names mode root → (o : Outcome ℕ) → lowerRoot freeTemp (treeOf nodes list names) mode root (start nodes root mode list names code constants marks) ≡ o →
       constantsOf (left o) ≤ reachedNodes (treeOf nodes list names) root
   walk-few y o q =
       let few = few-names nodes root mode list names code constants marks y in

@@ -23,24 +23,20 @@ use Rattle.runtime.specs.Value.{numberOf, numberBits, constantWords}
 use Rattle.runtime.specs.Function.{maxInstructions}
 use Rattle.runtime.proofs.Encoding.{kind-le}
 use Rattle.lowering.specs.Tree.{Tree}
-use Rattle.lowering.specs.Walk.{Made, Outcome, Walk}
+use Rattle.lowering.specs.Walk.{Made, Outcome, Walk, left}
 use Rattle.lowering.specs.Steps.{withOffset}
-use Rattle.lowering.specs.Result.{Lowered, begin, lower}
+use Rattle.lowering.specs.Result.{Result, Lowered, begin, lower}
+use Rattle.lowering.specs.Fields.{Field, reg, index, arguments, offset, unused, limit, Narrow, fieldOf}
+use Rattle.lowering.specs.Trace.{Runs, Step, takes, gives, leaves, emits, finds, pools, patches, marks, moves, refuses, constantOfNode, instructionsOf, constantsOf}
 use Rattle.lowering.proofs.Decode.{words-length}
-use Rattle.lowering.proofs.Trace.{Runs, Step, takes, gives, leaves, emits, finds, pools, patches, marks, moves, refuses, Field, reg, index, arguments, offset, unused, limit, Narrow, fieldOf, constantOfNode, instructionsOf, constantsOf}
-use Rattle.lowering.proofs.Everywhere.{left, along}
+use Rattle.lowering.proofs.Everywhere.{along}
 use Rattle.lowering.proofs.Beyond.{Grows, grows-refl, grows-trans, grows-each}
 use Rattle.lowering.proofs.Came.{Came, before, accepted, stopped, lower-came}
 use Rattle.lowering.proofs.Answers.{nothing-beyond}
 use Rattle.lowering.proofs.Reached.{nothing-cut}
+use Rattle.codegen.specs.Laws.{Bytes, Words}
 
 -- ---- bytes and words
-
-abbrev pub Bytes : List ℕ → Type 0
-Bytes s = (i : ℕ) → getD s i 0 < 256
-
-abbrev pub Words : List ℕ → Type 0
-Words ws = (i : ℕ) → getD ws i 0 < 4294967296
 
 no-words : Words []
 no-words zero = omega arith
@@ -241,7 +237,7 @@ module _ {t : Tree} {root : ℕ} (tree : Words (t .nodes)) where
   kept-each {m = m} (marks i start end z k) x y h =
       (h .0, h .1, put-words 1 (m .marks) _ ((instructionsOf m - 1) ∷ []) (h .2) (one-more (instructionsOf m - 1) [] (omega arith) no-words))
   kept-each {m = m} (moves place l k b) x y h = (set-words (m .code) _ _ (h .0) (omega arith), h .1, h .2)
-  kept-each (refuses o) x y h = h
+  kept-each (refuses q o) x y h = h
 
   kept : {A : Type 0} {w : Walk A} {m : Made} {o : Outcome A} → Runs t root A w m o → Kept m (left o)
   kept r = along Kept kept-refl kept-trans (λ A w m o s. record { grows = grows-each s; words = kept-each s }) r
@@ -261,3 +257,18 @@ module _ (nodes : List ℕ) (root mode : ℕ) (list names code constants marks :
   lower-words =
       came-words (lower-came nodes root mode list names code constants marks)
       (nothing-cut nodes root mode list names code constants marks .few-constants) (nothing-beyond nodes root mode list names code constants marks .code-few)
+
+-- Exact: numbers and bytes that are the definition's give its words.
+module _ (nodes : List ℕ) (root mode : ℕ) (list names code constants marks : List ℕ) (nodes-bytes : Bytes nodes) (code-bytes : Bytes code)
+    (constants-bytes : Bytes constants) (marks-bytes : Bytes marks) where
+  abbrev defined : Lowered
+  defined = lower nodes root mode list names (words code) (words constants) (words marks)
+
+  pub exact-words : (r : Result) (code′ constants′ marks′ : List ℕ) → r ≡ defined .result → code′ ≡ bytesOf (defined .code) ++ tail code →
+      constants′ ≡ bytesOf (defined .constants) ++ tail constants → marks′ ≡ bytesOf (defined .marks) ++ tail marks →
+      record { result = r; code = words code′; constants = words constants′; marks = words marks′ } ≡ defined
+  exact-words r code′ constants′ marks′ numbers-same code-same constants-same marks-same =
+      let w = lower-words nodes root mode list names (words code) (words constants) (words marks)
+      (words-small nodes nodes-bytes) (words-small code code-bytes) (words-small constants constants-bytes) (words-small marks marks-bytes) in
+      rw (code-same, constants-same, marks-same, words-exit code (defined .code) (w .0), words-exit constants (defined .constants) (w .1), words-exit marks (defined .marks) (w .2))
+      (ap (λ x. record { result = x; code = defined .code; constants = defined .constants; marks = defined .marks }) numbers-same)

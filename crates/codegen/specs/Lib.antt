@@ -1,2 +1,4 @@
+pub mod Ready
 pub mod Numbers
 pub mod Written
+pub mod Laws

@@ -7,7 +7,7 @@ use Rattle.diagnostics.specs.Refusal.{numberOf}
 use Rattle.lowering.specs.declared.State.{State}
 use Rattle.lowering.specs.Tree.{Tree, node}
 use Rattle.lowering.specs.Walk.{Walk, bind, _>>=_, _>>_, ret}
-use Rattle.lowering.specs.Steps.{patchArguments}
+use Rattle.lowering.specs.Steps.{freeTemp, patchArguments}
 use Rattle.lowering.specs.Lower.{jumpNode, lowerExpression}
 use Rattle.lowering.specs.Result as definition
 use Rattle.steps.specs.declared.answer.Answer.{Answer}
@@ -30,6 +30,6 @@ resultOf arity s (Answer.Refused e) = definition.result (numberOf (e .refusal)) 
 -- modes 1 and 2, by the outcome at which the jump is taken
 abbrev pub conditional : Tree → Bool → ℕ → Walk ℕ
 conditional t sense root = do
-  jump ← jumpNode t (lowerExpression t) sense (lowerExpression t root) (node t root)
+  jump ← jumpNode t (lowerExpression freeTemp t) sense (lowerExpression freeTemp t root) (node t root)
   patchArguments
   ret jump

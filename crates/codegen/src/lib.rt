@@ -1,5 +1,6 @@
 // Lowering a tree (kaori's codegen/lower_ast.rs): the questions, the walk from the root by the mode, and the arguments patched.
 pub mod exports;
+mod lower_expression;
 
 ghost use mathlib.Core.Path.{_≡_};
 ghost use mathlib.Core.List.{List, _++_};
@@ -9,20 +10,20 @@ ghost use Rattle.syntax.specs.Ast.{nodeAt};
 ghost use Rattle.lowering.specs.Tree.{treeOf};
 ghost use Rattle.lowering.specs.Questions.{passed, questions};
 ghost use Rattle.lowering.specs.Walk.{made, bind, ret};
-ghost use Rattle.lowering.specs.Steps.{patchArguments};
+ghost use Rattle.lowering.specs.Steps.{freeTemp, patchArguments};
 ghost use Rattle.lowering.specs.Lower.{jumpNode, lowerExpression};
 ghost use Rattle.lowering.specs.Result.{lowerRoot, lower};
 ghost use Rattle.steps.specs.declared.answer.Answer.{Answer};
 ghost use Rattle.steps.specs.Answers.{seen, answered};
-ghost use Rattle.lower_expression.specs.Ready.{Ready};
+ghost use Rattle.codegen.specs.Ready.{Ready};
 ghost use Rattle.codegen.specs.Numbers.{numbers, resultOf, refusedResult, conditional};
+use crate::lower_expression::lower_fused;
+use crate::lower_expression::lower_materializing;
 use diagnostics::Error;
 use diagnostics::Refusal;
 use environment::RegisterSet;
 use lower_ast::Patched;
 use lower_ast::patch_arguments;
-use lower_expression::lower_fused;
-use lower_expression::lower_materializing;
 use lowering::Dest;
 use lowering::State;
 use questions::check::Checked;
@@ -66,7 +67,7 @@ fn lower_jump_if(
     sense: bool,
 ) -> Lowered
     requires { ⌜ Ready (now nodes) (now list) (now names) arity ⌝ }
-    ensures { λ r. ⌜ answered Answer.Place (jumpNode (treeOf (now (nodes .entry)) (now (list .entry)) (now (names .entry))) (lowerExpression (treeOf (now (nodes .entry)) (now (list .entry)) (now (names .entry)))) sense (lowerExpression (treeOf (now (nodes .entry)) (now (list .entry)) (now (names .entry))) node) (nodeAt (words (now (nodes .entry))) node)
+    ensures { λ r. ⌜ answered Answer.Place (jumpNode (treeOf (now (nodes .entry)) (now (list .entry)) (now (names .entry))) (lowerExpression freeTemp (treeOf (now (nodes .entry)) (now (list .entry)) (now (names .entry)))) sense (lowerExpression freeTemp (treeOf (now (nodes .entry)) (now (list .entry)) (now (names .entry))) node) (nodeAt (words (now (nodes .entry))) node)
         (made (words (now (code .entry))) (words (now (constants .entry))) (words (now (marks .entry))) state))
         ≡ seen (made (words (now (code .exit))) (words (now (constants .exit))) (words (now (marks .exit))) (r .state)) (r .answer) ⌝ }
 {
@@ -154,7 +155,7 @@ fn lower_value(
     root: u32,
 ) -> Lowered
     requires { ⌜ Ready (now nodes) (now list) (now names) arity ⌝ }
-    ensures { λ r. ⌜ answered Answer.Place (lowerRoot (treeOf (now (nodes .entry)) (now (list .entry)) (now (names .entry))) 0 root
+    ensures { λ r. ⌜ answered Answer.Place (lowerRoot freeTemp (treeOf (now (nodes .entry)) (now (list .entry)) (now (names .entry))) 0 root
         (made (words (now (code .entry))) (words (now (constants .entry))) (words (now (marks .entry))) state))
         ≡ seen (made (words (now (code .exit))) (words (now (constants .exit))) (words (now (marks .exit))) (r .state)) (r .answer) ⌝ }
 {
@@ -238,7 +239,7 @@ fn lower_root(
     root: u32,
 ) -> Lowered
     requires { ⌜ Ready (now nodes) (now list) (now names) arity ⌝ }
-    ensures { λ r. ⌜ answered Answer.Place (lowerRoot (treeOf (now (nodes .entry)) (now (list .entry)) (now (names .entry))) mode root
+    ensures { λ r. ⌜ answered Answer.Place (lowerRoot freeTemp (treeOf (now (nodes .entry)) (now (list .entry)) (now (names .entry))) mode root
         (made (words (now (code .entry))) (words (now (constants .entry))) (words (now (marks .entry))) state))
         ≡ seen (made (words (now (code .exit))) (words (now (constants .exit))) (words (now (marks .exit))) (r .state)) (r .answer) ⌝ }
 {

@@ -9,7 +9,7 @@ use native.Mathlib.Nat.{pow-suc, one-mul, mod-eq-of-lt}
 use lib.Pow.{shr-shr, pow-pos, pow-lt}
 use lib.Bits.{bitOr, bitXor, bitAnd, or-step, xor-step, or-zero-r, xor-zero-r, and-mask, differ}
 use lib.Count.{trailingZeros, under}
-use Rattle.environment.specs.Bits.{bit, clear, raise}
+use Rattle.environment.specs.Bits.{bit, clear, raise, flip}
 
 -- a bit is 0 or 1, and 0 has none set
 pub bit-lt : (n k : ℕ) → bit n k < 2
@@ -42,6 +42,24 @@ clear-other n zero zero h = absurd (h refl)
 clear-other n zero (suc j) h = let e : n / 2 * 2 / 2 ≡ n / 2 = omega arith in rw e
 clear-other n (suc k) zero h = lowest-join (clear (n / 2) k) n
 clear-other n (suc k) (suc j) h = rw half-join (clear-other (n / 2) k j (λ e. h (ap suc e)))
+
+-- bit k turned over, and the others
+pub flip-same : (n k : ℕ) → bit n k ≡ 0 → bit (flip n k) k ≡ 1
+unfolding bit flip
+flip-same n zero h = omega arith
+flip-same n (suc k) h = rw half-join (flip-same (n / 2) k h)
+
+pub flip-set : (n k : ℕ) → bit n k ≡ 1 → bit (flip n k) k ≡ 0
+unfolding bit flip
+flip-set n zero h = omega arith
+flip-set n (suc k) h = rw half-join (flip-set (n / 2) k h)
+
+pub flip-other : (n k j : ℕ) → j ≢ k → bit (flip n k) j ≡ bit n j
+unfolding bit flip
+flip-other n zero zero h = absurd (h refl)
+flip-other n zero (suc j) h = let e : (n / 2 * 2 + (1 - n % 2)) / 2 ≡ n / 2 = omega arith in rw e
+flip-other n (suc k) zero h = lowest-join (flip (n / 2) k) n
+flip-other n (suc k) (suc j) h = rw half-join (flip-other (n / 2) k j (λ e. h (ap suc e)))
 
 -- bit k set, and the others
 pub raise-same : (n k : ℕ) → bit (raise n k) k ≡ 1
@@ -106,6 +124,17 @@ or-pow n (suc k) =
 differ-zero : (x : ℕ) → differ x 0 ≡ x
 differ-zero zero = refl
 differ-zero (suc x) = refl
+
+differ-one : (x : ℕ) → x < 2 → differ x 1 ≡ 1 - x
+differ-one zero h = refl
+differ-one (suc zero) h = refl
+differ-one (suc (suc x)) h = absurd (omega arith)
+
+-- `n ^ (1 << k)` turns a bit over
+pub flip-pow : (n k : ℕ) → bitXor n (2 ^ k) ≡ flip n k
+unfolding flip
+flip-pow n zero = xor-step n 1 ∙ rw (xor-zero-r (n / 2), differ-one (n % 2) (omega arith)) (omega arith)
+flip-pow n (suc k) = xor-step n (2 ^ suc k) ∙ rw (half-pow k, lowest-pow k, flip-pow (n / 2) k, differ-zero (n % 2))
 
 -- `n ^ (1 << k)` clears a bit that is set
 pub xor-pow : (n k : ℕ) → bit n k ≡ 1 → bitXor n (2 ^ k) ≡ clear n k

@@ -12,10 +12,10 @@ use lib.ListN.{length, getD, set, length-set, List·getD-eq-default}
 use lib.Seq.{getD-set-same, getD-set-other, set-getD}
 use lib.Bits.{bitOr, bitXor, bitAnd}
 use lib.Count.{trailingZeros}
-use borrow.Author.Tests.{eq-eqb, eqb-true}
-use Rattle.environment.specs.Bits.{bit, clear, raise}
+use borrow.Author.Tests.{eq-eqb, eqb-true, eqb-false}
+use Rattle.environment.specs.Bits.{bit, clear, flip}
 use Rattle.environment.specs.Registers.{free, takeOut, putBack, smallestFrom, smallestFree}
-use Rattle.environment.proofs.Bits.{bit-lt, bit-of-zero, clear-same, clear-other, raise-same, raise-other, raise-set, and-shift, shift-one, or-pow, xor-pow, below-trailing, at-trailing}
+use Rattle.environment.proofs.Bits.{bit-lt, bit-of-zero, clear-same, clear-other, flip-same, flip-set, flip-other, and-shift, shift-one, flip-pow, xor-pow, below-trailing, at-trailing}
 
 -- free, by the bit
 module _ (ws : List ℕ) (r : ℕ) where
@@ -30,6 +30,10 @@ module _ (ws : List ℕ) (r : ℕ) where
   bit-of-free : free ws r ≡ true → bit (getD ws (r / 64) 0) (r % 64) ≡ 1
   unfolding free
   bit-of-free h = eqb-true _ _ h
+
+  bit-of-held : free ws r ≡ false → bit (getD ws (r / 64) 0) (r % 64) ≡ 0
+  unfolding free
+  bit-of-held h = omega (arith, eqb-false (bit (getD ws (r / 64) 0) (r % 64)) 1 h, bit-lt (getD ws (r / 64) 0) (r % 64))
 
   -- a free register's word exists
   pub word-of-free : free ws r ≡ true → r / 64 < length ws
@@ -51,19 +55,19 @@ module _ (ws : List ℕ) (r : ℕ) where
   unfolding putBack
   length-putBack = length-set ws (r / 64) _
 
-  -- a free register is put back already
-  pub putBack-free : free ws r ≡ true → putBack ws r ≡ ws
-  unfolding putBack
-  putBack-free h = rw (raise-set (getD ws (r / 64) 0) (r % 64) (bit-of-free ws r h)) (set-getD ws (r / 64) 0)
-
 module _ (ws : List ℕ) (r : ℕ) (there : r / 64 < length ws) where
   pub takeOut-same : free (takeOut ws r) r ≡ false
   unfolding takeOut
   takeOut-same = not-free-of-bit _ r (rw (getD-set-same ws (r / 64) (clear (getD ws (r / 64) 0) (r % 64)) 0 there) (clear-same (getD ws (r / 64) 0) (r % 64)))
 
-  pub putBack-same : free (putBack ws r) r ≡ true
+  pub putBack-same : free ws r ≡ false → free (putBack ws r) r ≡ true
   unfolding putBack
-  putBack-same = free-of-bit _ r (rw (getD-set-same ws (r / 64) (raise (getD ws (r / 64) 0) (r % 64)) 0 there) (raise-same (getD ws (r / 64) 0) (r % 64)))
+  putBack-same h = free-of-bit _ r (rw (getD-set-same ws (r / 64) (flip (getD ws (r / 64) 0) (r % 64)) 0 there) (flip-same (getD ws (r / 64) 0) (r % 64) (bit-of-held ws r h)))
+
+  -- a free register put back is taken out: the set shows it
+  pub putBack-taken : free ws r ≡ true → free (putBack ws r) r ≡ false
+  unfolding putBack
+  putBack-taken h = not-free-of-bit _ r (rw (getD-set-same ws (r / 64) (flip (getD ws (r / 64) 0) (r % 64)) 0 there) (flip-set (getD ws (r / 64) 0) (r % 64) (bit-of-free ws r h)))
 
   -- a store that changes no bit of the word but r's
   store-other : (x j : ℕ) → j ≢ r → ((k : ℕ) → k ≢ r % 64 → bit x k ≡ bit (getD ws (r / 64) 0) k) →
@@ -82,7 +86,7 @@ module _ (ws : List ℕ) (r : ℕ) (there : r / 64 < length ws) where
 
   pub putBack-other : (j : ℕ) → j ≢ r → free (putBack ws r) j ≡ free ws j
   unfolding putBack free
-  putBack-other j ne = ap (λ b. eqb b 1) (store-other _ j ne (λ k d. raise-other (getD ws (r / 64) 0) (r % 64) k d))
+  putBack-other j ne = ap (λ b. eqb b 1) (store-other _ j ne (λ k d. flip-other (getD ws (r / 64) 0) (r % 64) k d))
 
 -- m is the smallest free one of n registers from r on, or r + n
 record Smallest (ws : List ℕ) (n r m : ℕ) : Type 0 where
@@ -166,9 +170,9 @@ module _ (ws : List ℕ) (r : ℕ) where
   unfolding takeOut
   xor-takeOut h = ap (set ws (r / 64)) (ap (bitXor (getD ws (r / 64) 0)) (shift-one (r % 64) (omega arith)) ∙ xor-pow _ (r % 64) (bit-of-free ws r h))
 
-  pub or-putBack : set ws (r / 64) (bitOr (getD ws (r / 64) 0) ((1 * 2 ^ (r % 64)) % 18446744073709551616)) ≡ putBack ws r
+  pub flip-putBack : set ws (r / 64) (bitXor (getD ws (r / 64) 0) ((1 * 2 ^ (r % 64)) % 18446744073709551616)) ≡ putBack ws r
   unfolding putBack
-  or-putBack = ap (set ws (r / 64)) (ap (bitOr (getD ws (r / 64) 0)) (shift-one (r % 64) (omega arith)) ∙ or-pow _ (r % 64))
+  flip-putBack = ap (set ws (r / 64)) (ap (bitXor (getD ws (r / 64) 0)) (shift-one (r % 64) (omega arith)) ∙ flip-pow _ (r % 64))
 
   pub and-free : eqb (bitAnd (getD ws (r / 64) 0 / 2 ^ (r % 64)) 1) 0 ≡ not (free ws r)
   unfolding free

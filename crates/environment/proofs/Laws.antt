@@ -4,7 +4,7 @@ use mathlib.Core.Path.{_≡_, refl, sym, ap, _∙_, subst}
 use mathlib.Core.Logic.{_≢_, _↔_}
 use mathlib.Core.List.{List}
 use mathlib.Core.Bool.{Bool, true, false, cond, not, _&&_, true≢false, false≢true}
-use Prim.Native.Nat.{ℕ, zero, suc, _+_, _-_, _/_, _%_, _^_, _<_, _≤_, max}
+use Prim.Native.Nat.{ℕ, zero, suc, _-_, _/_, _%_, _^_, _<_, _≤_}
 use native.Mathlib.Omega.{arith}
 use native.Mathlib.Decide.{ℕ-discrete, decLt}
 use lib.Dec.{ltb, eqb}
@@ -18,8 +18,9 @@ use Rattle.environment.specs.declared.Taken.{Taken}
 use Rattle.environment.specs.declared.Found.{Found}
 use Rattle.environment.specs.Registers.{allFree, free, smallestFree, putBack, without, taken, givenBack, held}
 use Rattle.environment.specs.Environment.{found, allocated, freed, parameters, lookup}
+use Rattle.environment.specs.Laws.{Sound, Takes, Refuses, Gives, Last, Undeclared}
 use Rattle.environment.proofs.Bits.{bit-greatest}
-use Rattle.environment.proofs.Free.{free-of-bit, word-of-free, length-takeOut, length-putBack, putBack-free, takeOut-same, takeOut-other, putBack-same, putBack-other, smallestFree-free, smallestFree-before, smallestFree-none}
+use Rattle.environment.proofs.Free.{free-of-bit, word-of-free, length-takeOut, length-putBack, takeOut-same, takeOut-other, putBack-same, putBack-taken, putBack-other, smallestFree-free, smallestFree-before, smallestFree-none}
 
 -- `held` and `free` say the opposite of a register below 256
 module _ (s : RegisterSet) (r : ℕ) where
@@ -57,50 +58,6 @@ module _ (s : RegisterSet) (r : ℕ) where
 held-of-same-free : (s t : RegisterSet) (j : ℕ) → free (t .words) j ≡ free (s .words) j → held t j ≡ held s j
 unfolding held
 held-of-same-free s t j h = rw h
-
--- a set as the code makes it
-pub record Sound (s : RegisterSet) : Type 0 where
-  -- four words, so that each of the 256 registers has its bit
-  pub whole : length (s .words) ≡ 4
-  -- every held register is below the frame size
-  pub below : (r : ℕ) → held s r ≡ true → r < s .«frame_size»
-
--- register r is taken from s, which leaves t
-pub record Takes (s : RegisterSet) (r : ℕ) (t : RegisterSet) : Type 0 where
-  -- it is one of the 256
-  pub in-range : r < 256
-  -- it was not held
-  pub was-free : held s r ≡ false
-  -- every smaller one was
-  pub smaller-held : (j : ℕ) → j < r → held s j ≡ true
-  -- it is held now
-  pub now-held : held t r ≡ true
-  -- no other changes
-  pub others : (j : ℕ) → j ≢ r → held t j ≡ held s j
-  -- the frame size covers it
-  pub frame : t .«frame_size» ≡ max (s .«frame_size») (r + 1)
-  -- there are as many words as before
-  pub words : length (t .words) ≡ length (s .words)
-
--- none can be taken from s, which is left as t: "none free is answered, not trapped"
-pub record Refuses (s : RegisterSet) (refusal : Refusal) (t : RegisterSet) : Type 0 where
-  -- the refusal is that of registers
-  pub reason : refusal ≡ Refusal.Registers
-  -- the set is as it was
-  pub unchanged : t ≡ s
-  -- all 256 are held
-  pub all-held : (j : ℕ) → j < 256 → held s j ≡ true
-
--- register r is given back to s, which leaves t
-pub record Gives (s : RegisterSet) (r : ℕ) (t : RegisterSet) : Type 0 where
-  -- it is not held now
-  pub now-free : held t r ≡ false
-  -- no other changes
-  pub others : (j : ℕ) → j ≢ r → held t j ≡ held s j
-  -- the frame size stays
-  pub frame : t .«frame_size» ≡ s .«frame_size»
-  -- there are as many words as before
-  pub words : length (t .words) ≡ length (s .words)
 
 -- what `taken` is, by the smallest free register
 abbrev takenAt : RegisterSet → Taken
@@ -215,24 +172,35 @@ taken-sound s sound = go (taken s .place) refl
     go (Place.At r) e = take-sound (place-takes s r e) sound
     go (Place.Refused refusal) e = rw (refused s refusal e .unchanged) sound
 
--- a register given back to a sound set is not held, and nothing else changes
-pub gives : (s : RegisterSet) (r : ℕ) → Sound s → Gives s r (givenBack s r)
+-- a held register given back to a sound set is not held, and nothing else changes
+pub gives : (s : RegisterSet) (r : ℕ) → Sound s → held s r ≡ true → Gives s r (givenBack s r)
 unfolding givenBack
-gives s r sound = go (decLt r 256)
+gives s r sound h = go (decLt r 256)
   where
     go : Dec (r < 256) → Gives s r (cond (ltb r 256) (record { words = putBack (s .words) r; «frame_size» = s .«frame_size» }) s)
     go (yes l) =
         let there : r / 64 < length (s .words) = omega (arith, sound .whole) in
         rw (lt-ltb r 256 l)
         (record {
-          now-free = held-of-free _ r (putBack-same (s .words) r there);
+          now-free = held-of-free _ r (putBack-same (s .words) r there (not-free (free (s .words) r) refl));
           others = λ j ne. held-of-same-free s _ j (putBack-other (s .words) r there j ne);
           frame = refl;
           words = length-putBack (s .words) r;
         })
+      where
+        not-free : (b : Bool) → free (s .words) r ≡ b → free (s .words) r ≡ false
+        not-free true e = absurd (true≢false (sym h ∙ held-of-free s r e))
+        not-free false e = e
     go (no l) =
         let past : 256 ≤ r = omega arith in
         rw (le-ltb r 256 past) (record { now-free = not-held-past s r past; others = λ j ne. refl; frame = refl; words = refl })
+
+-- one that is not held is held afterwards, so two give-backs are not one
+pub give-free : (s : RegisterSet) (r : ℕ) → Sound s → r < 256 → held s r ≡ false → held (givenBack s r) r ≡ true
+unfolding givenBack held
+give-free s r sound l h =
+    let there : r / 64 < length (s .words) = omega (arith, sound .whole) in
+    rw (lt-ltb r 256 l, putBack-taken (s .words) r there (free-of-held s r l h))
 
 -- giving back leaves a sound set
 pub give-sound : {s t : RegisterSet} {r : ℕ} → Gives s r t → Sound s → Sound t
@@ -248,30 +216,15 @@ module _ (s : RegisterSet) (r : ℕ) where
   unfolding givenBack
   give-past l = rw (le-ltb r 256 l)
 
-  -- nor does a register that is not held
-  pub give-not-held : held s r ≡ false → givenBack s r ≡ s
-  unfolding givenBack
-  give-not-held h = go (decLt r 256)
-    where
-      go : Dec (r < 256) → cond (ltb r 256) (record { words = putBack (s .words) r; «frame_size» = s .«frame_size» }) s ≡ s
-      go (yes l) = rw (lt-ltb r 256 l, putBack-free (s .words) r (free-of-held s r l h))
-      go (no l) = rw (le-ltb r 256 (omega arith))
-
   -- a temporary is given back
-  pub free-temporary : Sound s → Gives s r (freed s (Register.Temp r))
+  pub free-temporary : Sound s → held s r ≡ true → Gives s r (freed s (Register.Temp r))
   unfolding freed
-  free-temporary sound = gives s r sound
+  free-temporary sound h = gives s r sound h
 
   -- a local is not
   pub free-local : freed s (Register.Local r) ≡ s
   unfolding freed
   free-local = refl
-
--- either leaves a sound set
-pub freed-sound : (s : RegisterSet) (register : Register) → Sound s → Sound (freed s register)
-unfolding freed
-freed-sound s (Register.Temp r) sound = give-sound (gives s r sound) sound
-freed-sound s (Register.Local r) sound = sound
 
 -- the first set: every bit of its four words is set
 all-free-word : (i : ℕ) → i < 4 → getD (allFree .words) i 0 ≡ 2 ^ 64 - 1
@@ -383,26 +336,6 @@ pub parameters-sound : (n : ℕ) → Sound (parameters n)
 unfolding parameters
 parameters-sound zero = all-free-sound
 parameters-sound (suc n) = allocated-sound Register.Local (parameters n) (parameters-sound n)
-
--- "The last parameter of a name wins": register is that of the last of the first n names that is x
-pub record Last (names : List ℕ) (n x : ℕ) (register : Register) : Type 0 where
-  -- the index of the name
-  pub index : ℕ
-  -- the register is the local of that number
-  pub local : register ≡ Register.Local index
-  -- the name is one of the first n
-  pub in-range : index < n
-  -- and is x
-  pub named : getD names index 0 ≡ x
-  -- no later one is
-  pub later : (j : ℕ) → index < j → j < n → getD names j 0 ≢ x
-
--- the name x is refused: none of the first n names is x
-pub record Undeclared (names : List ℕ) (n x : ℕ) (refusal : Refusal) : Type 0 where
-  -- the refusal is that of a name
-  pub reason : refusal ≡ Refusal.Undeclared
-  -- no name is x
-  pub none : (j : ℕ) → j < n → getD names j 0 ≢ x
 
 module _ (names : List ℕ) where
   -- one more name, which is not x, changes neither

@@ -1,5 +1,5 @@
 -- The bits of a number, the lowest first.
-use Prim.Native.Nat.{ℕ, zero, suc, _+_, _*_, _/_, _%_}
+use Prim.Native.Nat.{ℕ, zero, suc, _+_, _*_, _-_, _/_, _%_}
 
 -- bit k of n
 unfoldable pub bit : ℕ → ℕ → ℕ
@@ -10,6 +10,11 @@ bit n (suc k) = bit (n / 2) k
 unfoldable pub clear : ℕ → ℕ → ℕ
 clear n zero = n / 2 * 2
 clear n (suc k) = clear (n / 2) k * 2 + n % 2
+
+-- n with bit k turned over
+unfoldable pub flip : ℕ → ℕ → ℕ
+flip n zero = n / 2 * 2 + (1 - n % 2)
+flip n (suc k) = flip (n / 2) k * 2 + n % 2
 
 -- n with bit k set
 unfoldable pub raise : ℕ → ℕ → ℕ

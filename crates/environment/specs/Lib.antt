@@ -1,3 +1,4 @@
 pub mod Bits
 pub mod Registers
 pub mod Environment
+pub mod Laws

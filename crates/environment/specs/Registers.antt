@@ -8,7 +8,7 @@ use Rattle.diagnostics.specs.declared.Refusal.{Refusal}
 use Rattle.diagnostics.specs.declared.Place.{Place}
 use Rattle.environment.specs.declared.RegisterSet.{RegisterSet}
 use Rattle.environment.specs.declared.Taken.{Taken}
-use Rattle.environment.specs.Bits.{bit, clear, raise}
+use Rattle.environment.specs.Bits.{bit, clear, flip}
 
 -- a free register is a set bit: bit r % 64 of word r / 64
 unfoldable pub free : List ℕ → ℕ → Bool
@@ -18,7 +18,7 @@ unfoldable pub takeOut : List ℕ → ℕ → List ℕ
 takeOut ws r = set ws (r / 64) (clear (getD ws (r / 64) 0) (r % 64))
 
 unfoldable pub putBack : List ℕ → ℕ → List ℕ
-putBack ws r = set ws (r / 64) (raise (getD ws (r / 64) 0) (r % 64))
+putBack ws r = set ws (r / 64) (flip (getD ws (r / 64) 0) (r % 64))
 
 -- the smallest free one of n registers from r on, or r + n
 unfoldable pub smallestFrom : List ℕ → ℕ → ℕ → ℕ
@@ -47,6 +47,6 @@ taken s =
     (record { set = without s (smallestFree (s .words)); place = Place.At (smallestFree (s .words)) })
     (record { set = s; place = Place.Refused Refusal.Registers })
 
--- a register given back is free; the frame size stays
+-- a register given back, which is held, is free; the frame size stays. One that is free is held afterwards: the set shows it.
 unfoldable pub givenBack : RegisterSet → ℕ → RegisterSet
 givenBack s r = cond (ltb r 256) (record { words = putBack (s .words) r; «frame_size» = s .«frame_size» }) s

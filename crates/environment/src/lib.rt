@@ -96,7 +96,7 @@ impl RegisterSet {
         if r < 256 {
             let i = (r / 64) as usize;
             let mut words = self.words;
-            words[i] = words[i] | (1u64 << (r % 64));
+            words[i] = words[i] ^ (1u64 << (r % 64));
             RegisterSet {
                 words: words,
                 frame_size: self.frame_size,

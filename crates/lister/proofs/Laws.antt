@@ -17,12 +17,12 @@ use Rattle.lowering.specs.Result.{Lowered, lower}
 use Rattle.lowering.proofs.Answers.{nothing-beyond}
 use Rattle.codegen.specs.declared.Result.{Result}
 use Rattle.codegen.specs.Numbers.{numbers}
-use Rattle.codegen.proofs.Width.{Bytes}
-use Rattle.codegen.proofs.Program.{exact}
+use Rattle.codegen.specs.Laws.{Bytes}
+use Rattle.codegen.proofs.Width.{exact-words}
 use Rattle.listing.specs.declared.text.Header.{Header}
 use Rattle.listing.specs.declared.text.Head.{Head}
-use Rattle.listing.specs.Text.{maxNodes, maxListWords, maxParameters, listWidth, nameWidth, readHeader, readNodes, readList, readNames, readText, filled}
-use Rattle.listing.specs.Output.{maxInstructions, maxConstants, maxMarks, numbersOf, printed, listing, printTree, lowerlist}
+use Rattle.listing.specs.Text.{maxNodes, maxListWords, maxParameters, longestText, listWidth, nameWidth, readHeader, readNodes, readList, readNames, readText, filled}
+use Rattle.listing.specs.Output.{maxInstructions, maxConstants, maxMarks, longestListing, numbersOf, printed, listing, printTree, lowerlist}
 use Rattle.listing.proofs.Written.{printed-length}
 use Rattle.listing.proofs.Only.{text-only}
 use Rattle.listing.proofs.Program.{zero-words, length-zeros, text-bounds, nodes-bytes, list-bytes, names-bytes, lowered-prints, good-prints, bad-prints}
@@ -53,7 +53,7 @@ module _ (nodes : List ℕ) (bytes : Bytes nodes) (root mode : ℕ) (list names 
   unfolding listing
   lowered-listing i k m r {code} {constants} {marks} a b c d =
       let same : came r code constants marks ≡ left i k m =
-      exact nodes root mode list names (zeros i) (zeros k) (zeros m) r code constants marks a b c d (zero-bytes (4 * i)) (zero-bytes (4 * k)) (zero-bytes (4 * m)) bytes in
+      exact-words nodes root mode list names (zeros i) (zeros k) (zeros m) bytes (zero-bytes (4 * i)) (zero-bytes (4 * k)) (zero-bytes (4 * m)) (numbers r) code constants marks a b c d in
       let zero : left i k m ≡ lower nodes root mode list names (replicate i 0) (replicate k 0) (replicate m 0) = rw (zero-words i, zero-words k, zero-words m) in
       ap listing (same ∙ zero)
 
@@ -104,10 +104,6 @@ bad-listing s e = sym (bad-prints s [] [] e)
 
 -- ---- the output
 
--- "2,048 instructions, 512 constants": the bytes of the longest listing
-abbrev pub listingBytes : ℕ
-listingBytes = 89 + 45 * maxInstructions + 34 * maxConstants
-
 module _ (nodes : List ℕ) (root mode : ℕ) (list names code constants marks : List ℕ) where
   length-listing : length (listing (lower nodes root mode list names code constants marks)) ≤ 89 + 45 * capacity 4 code + 34 * capacity 3 constants
   unfolding listing
@@ -124,10 +120,10 @@ constants-capacity : (n : ℕ) → capacity constantWidth (replicate (constantWi
 unfolding capacity
 constants-capacity n = rw (length-replicate {A = ℕ} (constantWidth * n) 0) (omega arith)
 
-pub length-lowerlist : (s : List ℕ) → length (lowerlist s) ≤ listingBytes
+pub length-lowerlist : (s : List ℕ) → length (lowerlist s) ≤ longestListing
 length-lowerlist s = go (readText s) refl
   where
-    go : (head : Head) → readText s ≡ head → length (lowerlist s) ≤ listingBytes
+    go : (head : Head) → readText s ≡ head → length (lowerlist s) ≤ longestListing
     go Head.Bad e = rw (bad-prints s [] [] e) (omega (arith, printed-length (1 ∷ 0 ∷ 0 ∷ 0 ∷ 0 ∷ 0 ∷ 0 ∷ 0 ∷ []) [] []))
     go (Head.Good h) e =
         rw (good-prints s h e)
@@ -140,21 +136,17 @@ length-lowerlist s = go (readText s) refl
         ))
 
 -- a count of bytes that were printed, and a buffer of so many bytes
-pub listing-room : (s : List ℕ) {r n : ℕ} → r ≡ length (lowerlist s) → n ≡ listingBytes → r ≤ n
+pub listing-room : (s : List ℕ) {r n : ℕ} → r ≡ length (lowerlist s) → n ≡ longestListing → r ≤ n
 listing-room s e f = omega (arith, length-lowerlist s)
 
 -- the bytes at the start of such a buffer are the whole listing
-pub listed : (s out : List ℕ) {r : ℕ} {printed : List ℕ} → r ≡ length (lowerlist s) → printed ≡ sets out 0 (lowerlist s) → length out ≡ listingBytes
+pub listed : (s out : List ℕ) {r : ℕ} {printed : List ℕ} → r ≡ length (lowerlist s) → printed ≡ sets out 0 (lowerlist s) → length out ≡ longestListing
     → take r printed ≡ lowerlist s
 listed s out e f size =
     let split = sets-eq (lowerlist s) out 0 (omega (arith, length-lowerlist s)) in
     rw (f, split) (take-at (lowerlist s) (drop (0 + length (lowerlist s)) out) _ (sym e))
 
 -- ---- the input
-
--- "512 nodes, 512 list words, 256 parameters": the bytes of the longest good text
-abbrev pub longestText : ℕ
-longestText = 56 + 67 * maxNodes + 12 * maxListWords + 12 * maxParameters
 
 pub long-bad : (s : List ℕ) → longestText < length s → readText s ≡ Head.Bad
 long-bad s l = go (readText s) refl

@@ -1,11 +1,12 @@
 // From a text to its listing: the text is read into buffers, its tree is lowered, and what lowering leaves is printed.
 ghost use mathlib.Core.Path.{_≡_};
 ghost use mathlib.Core.Option.{none};
-ghost use Prim.Native.Nat.{_*_, _≤_};
+ghost use Prim.Native.Nat.{_+_, _*_, _≤_};
 ghost use lib.ListN.{length, take};
 ghost use lib.Seq.{sets};
 ghost use Rattle.codegen.specs.Numbers.{numbers};
-ghost use Rattle.listing.specs.Output.{numbersOf, printTree, lowerlist};
+ghost use Rattle.listing.specs.Text.{longestText};
+ghost use Rattle.listing.specs.Output.{longestListing, numbersOf, printTree, lowerlist};
 ghost use Rattle.lister.specs.Lister.{treeListing};
 use codegen::Result;
 use codegen::lower;
@@ -65,15 +66,31 @@ const INSTRUCTION_LINE: usize = COLUMN_BYTES * INSTRUCTION_WORDS + 1;
 
 const CONSTANT_LINE: usize = COLUMN_BYTES * CONSTANT_WORDS + 1;
 
-// The longest good text, and the longest listing.
-pub const TEXT_BYTES: usize = HEADER_LINE
+// The longest text that is within the bounds, and a buffer for a text: with one byte more, a text that is too long shows. And the longest listing.
+const TEXT_BYTES: usize = HEADER_LINE
     + NODE_LINE * MAX_NODES
     + WORD_LINE * MAX_LIST_WORDS
     + WORD_LINE * MAX_PARAMETERS;
 
-pub const LISTING_BYTES: usize = RESULT_LINE
+const TEXT_BUFFER: usize = TEXT_BYTES + 1;
+
+const LISTING_BUFFER: usize = RESULT_LINE
     + INSTRUCTION_LINE * MAX_INSTRUCTIONS
     + CONSTANT_LINE * MAX_CONSTANTS;
+
+// Zeros, for a text. What is read into it prints what the whole text does, however long that is: a text is cut only behind the longest good one.
+pub fn text_buffer() -> [u8; TEXT_BUFFER]
+    ensures { λ r. ⌜ longestText + 1 ≡ length r ⌝ }
+{
+    [0; TEXT_BUFFER]
+}
+
+// Zeros, for a listing: every listing has place.
+pub fn listing_buffer() -> [u8; LISTING_BUFFER]
+    ensures { λ r. ⌜ longestListing ≡ length r ⌝ }
+{
+    [0; LISTING_BUFFER]
+}
 
 // The eight numbers, in the order in which they are printed.
 fn numbers_of(r: Result) -> [u32; RESULT_WORDS]

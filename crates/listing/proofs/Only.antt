@@ -17,10 +17,9 @@ use Rattle.listing.specs.declared.text.Header.{Header}
 use Rattle.listing.specs.declared.text.Head.{Head}
 use Rattle.listing.specs.Column.{columnBytes, space, digitZero, maxWord, isDigit, first, more, step, readBytes, readColumn, padding, padded, writeColumn}
 use Rattle.listing.specs.Text.{maxNodes, maxListWords, maxParameters, lineFeed, lineBytes, Read, gives, behind, readLine, below, readLines, headerWidth, listWidth, nameWidth, headerOf, nodesAt, listAt, namesAt, textBytes, within, headed, readHeader, readNodes, readList, readNames, checked, readText, Tree, treeOf, readTree}
-use Rattle.listing.specs.Output.{writeLine, writeLines, headerWords, writeTree}
+use Rattle.listing.specs.Output.{writeLine, writeLines, headerWords, writeTree, Words, Fits}
 use Rattle.listing.proofs.Columns.{false≢true, and-true, digit-bounds, read-short, steps, steps-append, read-steps}
 use Rattle.listing.proofs.Lines.{line-width}
-use Rattle.listing.proofs.RoundTrip.{Words, Fits}
 
 -- what n bytes are, by what they say: spaces alone, or a number, right-justified
 unfoldable Said : List ℕ → ℕ → Column → Type 0

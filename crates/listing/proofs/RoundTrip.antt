@@ -15,14 +15,10 @@ use Rattle.listing.specs.declared.text.Header.{Header}
 use Rattle.listing.specs.declared.text.Head.{Head}
 use Rattle.listing.specs.Column.{columnBytes, maxWord, writeColumn}
 use Rattle.listing.specs.Text.{maxNodes, maxListWords, maxParameters, lineBytes, gives, behind, readLine, below, readLines, headerWidth, listWidth, nameWidth, headerOf, nodesAt, listAt, namesAt, textBytes, within, readHeader, readNodes, readList, readNames, readText, Tree, treeOf, readTree}
-use Rattle.listing.specs.Output.{writeLine, writeLines, headerWords, writeTree}
+use Rattle.listing.specs.Output.{writeLine, writeLines, headerWords, writeTree, Words, Fits}
 use Rattle.listing.proofs.Columns.{column-back, length-column}
 use Rattle.listing.proofs.Written.{length-line, length-lines}
 use Rattle.listing.proofs.Texts.{header-good, text-good}
-
--- a list of words: "nothing above 4294967295"
-abbrev pub Words : List ℕ → Type 0
-Words ws = (i : ℕ) → getD ws i 0 ≤ maxWord
 
 drop-words : (n : ℕ) (ws : List ℕ) → Words ws → Words (drop n ws)
 drop-words n ws h i = omega (arith, getD-drop n ws i 0, h (n + i))
@@ -48,18 +44,6 @@ lines-back w (suc n) ws s l h =
     let others : readLines w n rest ≡ gives (drop w ws) true = lines-back w n (drop w ws) s more (drop-words w ws h) in
     rw (append-assoc line (writeLines w n (drop w ws)) s, line-back w ws rest long h, drop-at line rest (lineBytes w) (length-line w ws))
     (rw (others, take-append-drop w ws))
-
--- a tree that a text can give: whole nodes, within the bounds, and words
-pub record Fits (t : Tree) : Type 0 where
-  pub whole : length (t .nodes) ≡ nodeWidth * (length (t .nodes) / nodeWidth)
-  pub few-nodes : length (t .nodes) / nodeWidth ≤ maxNodes
-  pub few-words : length (t .list) ≤ maxListWords
-  pub few-names : length (t .names) ≤ maxParameters
-  pub mode : t .mode ≤ maxWord
-  pub root : t .root ≤ maxWord
-  pub nodes : Words (t .nodes)
-  pub list : Words (t .list)
-  pub names : Words (t .names)
 
 module _ (t : Tree) where
   abbrev count : ℕ

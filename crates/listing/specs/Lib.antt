@@ -1,3 +1,4 @@
 pub mod Column
 pub mod Text
 pub mod Output
+pub mod Page

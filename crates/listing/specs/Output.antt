@@ -1,5 +1,6 @@
 -- "Output: the eight result numbers, instructions, constants": what is printed of what lowering leaves, and the program, from text to output.
-use Prim.Native.Nat.{ℕ, zero, suc, _*_, _/_}
+use Prim.Native.Nat.{ℕ, zero, suc, _+_, _*_, _/_, _≤_}
+use mathlib.Core.Path.{_≡_}
 use mathlib.Core.List.{List, [], _∷_, _++_}
 use mathlib.Core.Option.{Option, none, some}
 use lib.ListN.{length, getD, drop, replicate}
@@ -10,8 +11,8 @@ use Rattle.syntax.specs.Ast.{nodeWidth}
 use Rattle.runtime.specs.Instruction.{instructionWidth}
 use Rattle.runtime.specs.Value.{constantWidth}
 use Rattle.lowering.specs.Result.{Result, result, Lowered, lower}
-use Rattle.listing.specs.Column.{writeColumn}
-use Rattle.listing.specs.Text.{lineFeed, headerWidth, listWidth, nameWidth, Tree, readTree}
+use Rattle.listing.specs.Column.{maxWord, writeColumn}
+use Rattle.listing.specs.Text.{lineFeed, lineBytes, headerWidth, listWidth, nameWidth, maxNodes, maxListWords, maxParameters, Tree, readTree}
 
 -- a line of w columns: the first w words of ws, 0 past the last, and a line feed
 unfoldable pub writeLine : ℕ → List ℕ → List ℕ
@@ -48,6 +49,10 @@ maxConstants = 512
 abbrev pub maxMarks : ℕ
 maxMarks = 512
 
+-- the bytes of the longest listing: the eight numbers, and as many instructions and constants as the buffers hold, one a line
+abbrev pub longestListing : ℕ
+longestListing = lineBytes resultWidth + lineBytes instructionWidth * maxInstructions + lineBytes constantWidth * maxConstants
+
 unfoldable pub lowerTree : Tree → Lowered
 lowerTree t =
     lower (bytesOf (t .nodes)) (t .root) (t .mode) (bytesOf (t .list)) (bytesOf (t .names))
@@ -72,3 +77,19 @@ writeTree t =
     ++ writeLines nodeWidth (length (t .nodes) / nodeWidth) (t .nodes)
     ++ writeLines listWidth (length (t .list)) (t .list)
     ++ writeLines nameWidth (length (t .names)) (t .names)
+
+-- a list of words: "nothing above 4294967295"
+abbrev pub Words : List ℕ → Type 0
+Words ws = (i : ℕ) → getD ws i 0 ≤ maxWord
+
+-- a tree that a text can give: whole nodes, within the bounds, and words
+pub record Fits (t : Tree) : Type 0 where
+  pub whole : length (t .nodes) ≡ nodeWidth * (length (t .nodes) / nodeWidth)
+  pub few-nodes : length (t .nodes) / nodeWidth ≤ maxNodes
+  pub few-words : length (t .list) ≤ maxListWords
+  pub few-names : length (t .names) ≤ maxParameters
+  pub mode : t .mode ≤ maxWord
+  pub root : t .root ≤ maxWord
+  pub nodes : Words (t .nodes)
+  pub list : Words (t .list)
+  pub names : Words (t .names)

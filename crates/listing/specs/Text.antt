@@ -85,6 +85,10 @@ maxListWords = 512
 abbrev pub maxParameters : ℕ
 maxParameters = 256
 
+-- the bytes of the longest text that is within the bounds: a header, and as many nodes, list words and parameters as there may be, one a line
+abbrev pub longestText : ℕ
+longestText = nodesAt + lineBytes nodeWidth * maxNodes + lineBytes listWidth * maxListWords + lineBytes nameWidth * maxParameters
+
 abbrev pub within : Header → Bool
 within h = leb (h .nodes) maxNodes && leb (h .list) maxListWords && leb (h .names) maxParameters
 

@@ -13,8 +13,9 @@ use Rattle.words.specs.Words.{words}
 use Rattle.lowering.specs.Tree.{treeOf, Tree}
 use Rattle.lowering.specs.Questions.{Verdict, passed, refused, questions}
 use Rattle.lowering.specs.Walk.{Made, Outcome, ends, stops}
-use Rattle.lowering.specs.Result.{Lowered, result, leaves, begin, lowerRoot, answered, lowerChecked, lower}
-use Rattle.lowering.specs.Law.{Accepted, arity, instructions, StandsIn, Setting, Start, LawOf, RunningLaw}
+use Rattle.lowering.specs.Steps.{freeTemp}
+use Rattle.lowering.specs.Result.{result, begin, lowerRoot, answered, lowerChecked, lower}
+use Rattle.lowering.specs.Law.{Accepted, instructions, StandsIn, Setting, Start, LawOf, RunningLaw, alone}
 use Rattle.lowering.proofs.Asked.{few-parameters}
 use Rattle.lowering.proofs.Law.{runs, exactly, once, parameters, short, defined}
 
@@ -23,7 +24,7 @@ pub stands-itself : (w n : ℕ) (ws : List ℕ) → StandsIn w ws n ws n 0
 stands-itself w n ws i h = let e : 0 + i ≡ i = zero-add i in (omega arith, rw e)
 
 -- no refusal has number 0
-number-positive : (r : Refusal) → numberOf r ≢ 0
+pub number-positive : (r : Refusal) → numberOf r ≢ 0
 number-positive Refusal.Size e = omega arith
 number-positive Refusal.Root e = omega arith
 number-positive Refusal.Kind e = omega arith
@@ -46,9 +47,6 @@ number-positive Refusal.Jump e = omega arith
 
 -- the law of an accepted walk, from place 0 and with the pool that it left
 module _ (a : Accepted) where
-  abbrev alone : Lowered
-  alone = leaves (result 0 (a .answer) 0 0 (instructions a) (a .left .state .constants) (a .left .state .registers .«frame_size») (arity a)) (a .left)
-
   setting : Start (a .tree) (a .root) → Setting a
   setting s = record {
     code = a .left .code;
@@ -66,7 +64,7 @@ module _ (a : Accepted) where
     order = s .order;
   }
 
-  pub alone-holds : LawOf (a .tree) (a .root) alone
+  pub alone-holds : LawOf (a .tree) (a .root) (alone a)
   unfolding setting
   alone-holds = record {
     runs = λ s. runs a (setting s);
@@ -91,7 +89,7 @@ running-law nodes list names root code constants marks plain e =
     start : Made
     start = begin code constants marks 0 (length (words names))
 
-    by-outcome : (o : Outcome ℕ) → lowerRoot t 0 root start ≡ o → length (words names) ≤ 256 → answered (length (words names)) o .result .number ≡ 0 →
+    by-outcome : (o : Outcome ℕ) → lowerRoot freeTemp t 0 root start ≡ o → length (words names) ≤ 256 → answered (length (words names)) o .result .number ≡ 0 →
         LawOf t root (answered (length (words names)) o)
     by-outcome (ends place m) q few z = alone-holds (record {
       tree = t;
@@ -108,6 +106,6 @@ running-law nodes list names root code constants marks plain e =
     })
     by-outcome (stops x m) q few z = absurd (number-positive (x .refusal) z)
 
-    by-verdict : (v : Verdict) → questions nodes list names 0 root ≡ v → lowerChecked v t 0 root start .result .number ≡ 0 → LawOf t root (lowerChecked v t 0 root start)
-    by-verdict passed q z = by-outcome (lowerRoot t 0 root start) refl (few-parameters nodes list names 0 root q) z
+    by-verdict : (v : Verdict) → questions nodes list names 0 root ≡ v → lowerChecked freeTemp v t 0 root start .result .number ≡ 0 → LawOf t root (lowerChecked freeTemp v t 0 root start)
+    by-verdict passed q z = by-outcome (lowerRoot freeTemp t 0 root start) refl (few-parameters nodes list names 0 root q) z
     by-verdict (refused refusal place) q z = absurd (number-positive refusal z)

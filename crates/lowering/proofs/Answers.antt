@@ -3,7 +3,7 @@ use Prim.Native.Nat.{ℕ, _+_, _*_, _≤_, _<_}
 use native.Mathlib.Omega.{arith}
 use native.Mathlib.Decide.{decLt, decLe}
 use mathlib.Core.Path.{_≡_, refl, sym, ap, _∙_, subst}
-use mathlib.Core.Logic.{_≢_, _⊎_, inl, inr, _↔_}
+use mathlib.Core.Logic.{_⊎_, inl, inr, _↔_}
 use mathlib.Core.Bool.{Bool, true, false, cond, _&&_}
 use mathlib.Core.List.{List, [], _∷_}
 use lib.Dec.{leb, ltb}
@@ -17,18 +17,18 @@ use Rattle.words.specs.Words.{words}
 use Rattle.words.specs.Records.{capacity}
 use Rattle.words.proofs.Records.{room}
 use Rattle.runtime.specs.Instruction.{offsetWord}
-use Rattle.runtime.specs.Function.{maxInstructions}
-use Rattle.lowering.specs.Tree.{treeOf}
-use Rattle.lowering.specs.Questions.{Verdict, passed, refused, questions}
-use Rattle.lowering.specs.Walk.{Made, ends, stops}
-use Rattle.lowering.specs.Steps.{withOffset}
-use Rattle.lowering.specs.Result.{Result, Lowered, result, leaves, begin, lowerRoot, lowerChecked, lower, canPatch, Patched, patch}
+use Rattle.lowering.specs.Tree.{Tree, treeOf}
+use Rattle.lowering.specs.Checked.{AllYes, FirstNo}
+use Rattle.lowering.specs.Walk.{Made, stops, left}
+use Rattle.lowering.specs.Steps.{freeTemp, withOffset}
+use Rattle.lowering.specs.Result.{Result, Lowered, result, leaves, begin, lowerRoot, answered, lowerChecked, lower, canPatch, Patched, patch}
+use Rattle.lowering.specs.Trace.{Runs, Own, JumpKind, instructionsOf, constantsOf, marksOf}
+use Rattle.lowering.specs.Answers.{start, Untouched, Stopped, StopsWith, Tells, Ended, marksMade, markCount, Within, kind, MayPatch, MayNot, index-past, count-past, kind-below, kind-past, OneWord}
 use Rattle.lowering.proofs.Decode.{offset-small}
-use Rattle.lowering.proofs.Checked.{AllYes, FirstNo, questions-passed, questions-refused, and-left, and-right}
-use Rattle.lowering.proofs.Trace.{Runs, Own, JumpKind, instructionsOf, constantsOf, marksOf}
-use Rattle.lowering.proofs.Everywhere.{left}
+use Rattle.lowering.proofs.Checked.{questions-passed, questions-refused, and-left, and-right}
 use Rattle.lowering.proofs.Beyond.{Grows, runs-grow}
-use Rattle.lowering.proofs.Came.{Came, before, accepted, stopped, lower-came, own-number, first-number, start}
+use Rattle.lowering.proofs.Meeting.{met-declared, met-else, met-key}
+use Rattle.lowering.proofs.Came.{Came, before, accepted, stopped, lower-came, own-number, first-number}
 
 -- ---- a refusal by its number
 
@@ -61,9 +61,6 @@ refusal-of-number Refusal.Sum = refl
 refusal-of-number Refusal.Jump = refl
 
 module _ (nodes : List ℕ) (root mode : ℕ) (list names code constants marks : List ℕ) where
-  abbrev lowered : Lowered
-  lowered = lower nodes root mode list names code constants marks
-
   -- ---- Only: from lowering, 0 to 18
 
   number-only : {l : Lowered} → Came nodes root mode list names code constants marks l → l .result .number ≤ 18
@@ -71,25 +68,18 @@ module _ (nodes : List ℕ) (root mode : ℕ) (list names code constants marks :
   number-only (accepted y e r) = omega arith
   number-only (stopped y e r o) = own-number o .1
 
-  pub only-lowering : lowered .result .number ≤ 18
+  pub only-lowering : lower nodes root mode list names code constants marks .result .number ≤ 18
   only-lowering = number-only (lower-came nodes root mode list names code constants marks)
 
   -- ---- Writes nothing: with 1 to 8 every word is as at entry, and every count is 0
 
-  pub record Untouched (l : Lowered) : Type 0 where
-    pub code-same : l .code ≡ code
-    pub constants-same : l .constants ≡ constants
-    pub marks-same : l .marks ≡ marks
-    pub no-instructions : l .result .instructions ≡ 0
-    pub no-constants : l .result .constants ≡ 0
-
-  untouched : {l : Lowered} → Came nodes root mode list names code constants marks l → 1 ≤ l .result .number → l .result .number ≤ 8 → Untouched l
+  untouched : {l : Lowered} → Came nodes root mode list names code constants marks l → 1 ≤ l .result .number → l .result .number ≤ 8 → Untouched nodes root mode list names code constants marks l
   unfolding begin
   untouched (before h) a b = record { code-same = refl; constants-same = refl; marks-same = refl; no-instructions = refl; no-constants = refl }
   untouched (accepted y e r) a b = absurd (omega arith)
   untouched (stopped y e r o) a b = absurd (omega (arith, own-number o .0))
 
-  pub writes-nothing : 1 ≤ lowered .result .number → lowered .result .number ≤ 8 → Untouched lowered
+  pub writes-nothing : 1 ≤ lower nodes root mode list names code constants marks .result .number → lower nodes root mode list names code constants marks .result .number ≤ 8 → Untouched nodes root mode list names code constants marks (lower nodes root mode list names code constants marks)
   writes-nothing = untouched (lower-came nodes root mode list names code constants marks)
 
   -- ---- Own condition of 1 to 8: the number and the place come back exactly where that question is the first one answered no, there
@@ -103,7 +93,7 @@ module _ (nodes : List ℕ) (root mode : ℕ) (list names code constants marks :
   own-first (stopped y e' r' o) r place a b e f = absurd (omega (arith, own-number o .0))
 
   pub own-condition-before : (r : Refusal) (place : ℕ) → 1 ≤ numberOf r → numberOf r ≤ 8 →
-      ((lowered .result .number ≡ numberOf r) × (lowered .result .place ≡ place)) ↔ FirstNo nodes list names mode root r place
+      ((lower nodes root mode list names code constants marks .result .number ≡ numberOf r) × (lower nodes root mode list names code constants marks .result .place ≡ place)) ↔ FirstNo nodes list names mode root r place
   unfolding lower lowerChecked
   own-condition-before r place a b = (
     λ h. own-first (lower-came nodes root mode list names code constants marks) r place b a (h .0) (h .1),
@@ -112,69 +102,57 @@ module _ (nodes : List ℕ) (root mode : ℕ) (list names code constants marks :
 
   -- ---- Own condition of 9 to 18, with place and span: the walk stopped there, under that refusal's condition
 
-  pub record Stopped (l : Lowered) : Type 0 where
-    pub error : Error
-    pub made : Made
-    -- what the walk comes to
-    pub is : lowerRoot (treeOf nodes list names) mode root (start nodes root mode list names code constants marks) ≡ stops error made
-    pub own : Own (treeOf nodes list names) root error made
-    pub shown : l ≡ leaves (result (numberOf (error .refusal)) (error .place) (error .start) (error .end) (instructionsOf made) (constantsOf made) 0 0) made
-
-  own-later : {l : Lowered} → Came nodes root mode list names code constants marks l → 9 ≤ l .result .number → Stopped l
+  own-later : {l : Lowered} → Came nodes root mode list names code constants marks l → 9 ≤ l .result .number → Stopped nodes root mode list names code constants marks l
   own-later (before h) a = absurd (omega (arith, first-number h .1))
   own-later (accepted y e r) a = absurd (omega arith)
   own-later (stopped {e = e} {m = m} y q r o) a = record { error = e; made = m; is = q; own = o; shown = refl }
 
-  pub own-condition-walk : 9 ≤ lowered .result .number → Stopped lowered
+  pub own-condition-walk : 9 ≤ lower nodes root mode list names code constants marks .result .number → Stopped nodes root mode list names code constants marks (lower nodes root mode list names code constants marks)
   own-condition-walk = own-later (lower-came nodes root mode list names code constants marks)
 
-  -- with 0 no question was answered no: every one before the walk was answered yes, and the walk came to its end
-  pub record Ended (l : Lowered) : Type 1 where
-    pub yes : AllYes nodes list names mode root
-    pub place : ℕ
-    pub made : Made
-    -- what the walk comes to
-    pub is : lowerRoot (treeOf nodes list names) mode root (start nodes root mode list names code constants marks) ≡ ends place made
-    pub run : Runs (treeOf nodes list names) root ℕ
-        (lowerRoot (treeOf nodes list names) mode root) (start nodes root mode list names code constants marks) (ends place made)
-    pub shown : l ≡ leaves (result 0 place 0 0 (instructionsOf made) (constantsOf made) (made .state .registers .«frame_size») (length (words names))) made
+  told-stops : {l : Lowered} → Came nodes root mode list names code constants marks l → (e : Error) → 9 ≤ numberOf (e .refusal) → Tells nodes root mode list names code constants marks (l .result) e → StopsWith nodes root mode list names code constants marks e
+  told-stops (before h) e a k = absurd (omega (arith, first-number h .1, k .number))
+  told-stops (accepted y q r) e a k = absurd (omega (arith, k .number))
+  told-stops (stopped {e = f} {m = m} y q r o) e a k =
+      let same : f .refusal ≡ e .refusal = sym (refusal-of-number (f .refusal)) ∙ ap refusalOf (k .number) ∙ refusal-of-number (e .refusal) in
+      record { yes = y; made = m; is = q ∙ (λ i. stops (record { refusal = same i; place = k .place i; start = k .start i; end = k .end i }) m) }
 
-  ended : {l : Lowered} → Came nodes root mode list names code constants marks l → l .result .number ≡ 0 → Ended l
+  pub own-condition-exactly : (e : Error) → 9 ≤ numberOf (e .refusal) → Tells nodes root mode list names code constants marks (lower nodes root mode list names code constants marks .result) e ↔ StopsWith nodes root mode list names code constants marks e
+  unfolding lower lowerChecked answered
+  own-condition-exactly e a = (
+    told-stops (lower-came nodes root mode list names code constants marks) e a,
+    λ h. rw (questions-passed nodes list names mode root .1 (h .yes), h .is) (record { number = refl; place = refl; start = refl; end = refl }),
+  )
+
+  ended : {l : Lowered} → Came nodes root mode list names code constants marks l → l .result .number ≡ 0 → Ended nodes root mode list names code constants marks l
   ended (before h) e = absurd (omega (arith, first-number h .0))
-  ended (accepted {place = place} {m = m} y q r) e = record { yes = y; place = place; made = m; is = q; run = r; shown = refl }
+  ended (accepted {place = place} {m = m} y q r) e =
+      let t : Tree = treeOf nodes list names in
+      let from : Made = start nodes root mode list names code constants marks in
+      record {
+        yes = y;
+        place = place;
+        made = m;
+        is = q;
+        run = r;
+        declared = λ i symbol x n. met-declared t root mode from q x n;
+        has-else = λ i c a b x n. met-else t root mode from q x n;
+        has-name = λ i first count x n. met-key t root mode from q x n;
+        shown = refl;
+      }
   ended (stopped y q r o) e = absurd (omega (arith, own-number o .0))
 
-  pub accepted-walk : lowered .result .number ≡ 0 → Ended lowered
+  pub accepted-walk : lower nodes root mode list names code constants marks .result .number ≡ 0 → Ended nodes root mode list names code constants marks (lower nodes root mode list names code constants marks)
   accepted-walk = ended (lower-came nodes root mode list names code constants marks)
 
   -- ---- Nothing beyond: every word past the counts is as at entry, and the counts fit the buffers
-
-  -- how many marks were made, which no result says: none before the walk
-  abbrev pub marksMade : Verdict → ℕ
-  marksMade passed = marksOf (left (lowerRoot (treeOf nodes list names) mode root (start nodes root mode list names code constants marks)))
-  marksMade (refused r place) = 0
-
-  abbrev pub markCount : ℕ
-  markCount = marksMade (questions nodes list names mode root)
-
-  pub record Within (l : Lowered) : Type 0 where
-    pub code-length : length (l .code) ≡ length code
-    pub constants-length : length (l .constants) ≡ length constants
-    pub marks-length : length (l .marks) ≡ length marks
-    pub code-past : (i : ℕ) → 4 * l .result .instructions ≤ i → getD (l .code) i 0 ≡ getD code i 0
-    pub constants-past : (i : ℕ) → 3 * l .result .constants ≤ i → getD (l .constants) i 0 ≡ getD constants i 0
-    pub code-fits : l .result .instructions ≤ capacity 4 code
-    pub code-few : l .result .instructions ≤ maxInstructions
-    pub constants-fit : l .result .constants ≤ capacity 3 constants
-    pub marks-past : (i : ℕ) → markCount ≤ i → getD (l .marks) i 0 ≡ getD marks i 0
-    pub marks-fit : markCount ≤ capacity 1 marks
 
   same-capacity : (w : ℕ) (xs ys : List ℕ) → length xs ≡ length ys → capacity w xs ≡ capacity w ys
   unfolding capacity
   same-capacity w xs ys e = rw e
 
   grown-within : (r : Result) (m : Made) → Grows (start nodes root mode list names code constants marks) m → r .instructions ≡ instructionsOf m → r .constants ≡ constantsOf m →
-      markCount ≡ marksOf m → Within (leaves r m)
+      markCount nodes root mode list names code constants marks ≡ marksOf m → Within nodes root mode list names code constants marks (leaves r m)
   unfolding begin
   grown-within r m g e f k = record {
     code-length = g .code-length;
@@ -189,14 +167,14 @@ module _ (nodes : List ℕ) (root mode : ℕ) (list names code constants marks :
     marks-fit = subst (λ n. n ≤ capacity 1 marks) (sym k) (rw (sym (same-capacity 1 (m .marks) marks (g .marks-length))) (g .marks-fit (omega arith)));
   }
 
-  no-marks : (r : Refusal) (place : ℕ) → FirstNo nodes list names mode root r place → markCount ≡ 0
-  no-marks r place h = ap marksMade (questions-refused nodes list names mode root r place .1 h)
+  no-marks : (r : Refusal) (place : ℕ) → FirstNo nodes list names mode root r place → markCount nodes root mode list names code constants marks ≡ 0
+  no-marks r place h = ap (marksMade nodes root mode list names code constants marks) (questions-refused nodes list names mode root r place .1 h)
 
-  walk-marks : AllYes nodes list names mode root → (m : Made) →
-      left (lowerRoot (treeOf nodes list names) mode root (start nodes root mode list names code constants marks)) ≡ m → markCount ≡ marksOf m
-  walk-marks y m e = ap marksMade (questions-passed nodes list names mode root .1 y) ∙ ap (λ n. marksOf n) e
+  pub walk-marks : AllYes nodes list names mode root → (m : Made) →
+      left (lowerRoot freeTemp (treeOf nodes list names) mode root (start nodes root mode list names code constants marks)) ≡ m → markCount nodes root mode list names code constants marks ≡ marksOf m
+  walk-marks y m e = ap (marksMade nodes root mode list names code constants marks) (questions-passed nodes list names mode root .1 y) ∙ ap (λ n. marksOf n) e
 
-  within : {l : Lowered} → Came nodes root mode list names code constants marks l → Within l
+  within : {l : Lowered} → Came nodes root mode list names code constants marks l → Within nodes root mode list names code constants marks l
   unfolding begin left
   within (before {r = r} {place = place} h) = record {
     code-length = refl;
@@ -213,31 +191,22 @@ module _ (nodes : List ℕ) (root mode : ℕ) (list names code constants marks :
   within (accepted {m = m} y e r) = grown-within _ m (runs-grow r) refl refl (walk-marks y m (ap left e))
   within (stopped {m = m} y e r o) = grown-within _ m (runs-grow r) refl refl (walk-marks y m (ap left e))
 
-  pub nothing-beyond : Within lowered
+  pub nothing-beyond : Within nodes root mode list names code constants marks (lower nodes root mode list names code constants marks)
   nothing-beyond = within (lower-came nodes root mode list names code constants marks)
 
 -- ---- Patching
 
 module _ (words : List ℕ) (count index offset : ℕ) where
-  abbrev kind : ℕ
-  kind = getD words (4 * index) 0
-
   abbrev chosen : Bool → Patched
   chosen b = cond b (record { number = 0; code = withOffset words index offset }) (record { number = numberOf Refusal.Jump; code = words })
 
-  -- what is asked: an index below the count, a count within the buffer, a jump
-  pub record MayPatch : Type 0 where
-    pub below : index < count
-    pub within-buffer : count ≤ capacity 4 words
-    pub jump : JumpKind kind
-
-  can-may : canPatch words count index ≡ true → MayPatch
+  can-may : canPatch words count index ≡ true → MayPatch words count index offset
   unfolding canPatch
   can-may h =
       let a : Bool = ltb index count in
       let b : Bool = leb count (capacity 4 words) in
-      let c : Bool = leb 41 kind in
-      let d : Bool = leb kind 53 in
+      let c : Bool = leb 41 (kind words count index offset) in
+      let d : Bool = leb (kind words count index offset) 53 in
       let h3 : (a && b && c) ≡ true = and-left (a && b && c) d h in
       let h2 : (a && b) ≡ true = and-left (a && b) c h3 in
       record {
@@ -246,9 +215,9 @@ module _ (words : List ℕ) (count index offset : ℕ) where
         jump = record { low = leb-true _ _ (and-right (a && b) c h3); high = leb-true _ _ (and-right (a && b && c) d h) };
       }
 
-  may-can : MayPatch → canPatch words count index ≡ true
+  pub may-can : MayPatch words count index offset → canPatch words count index ≡ true
   unfolding canPatch
-  may-can h = rw (lt-ltb index count (h .below), le-leb count (capacity 4 words) (h .within-buffer), le-leb 41 kind (h .jump .low), le-leb kind 53 (h .jump .high))
+  may-can h = rw (lt-ltb index count (h .below), le-leb count (capacity 4 words) (h .within-buffer), le-leb 41 (kind words count index offset) (h .jump .low), le-leb (kind words count index offset) 53 (h .jump .high))
 
   -- Only: from patching, 0 or 19
   pub only-patching : (patch words count index offset .number ≡ 0) ⊎ (patch words count index offset .number ≡ 19)
@@ -261,7 +230,7 @@ module _ (words : List ℕ) (count index offset : ℕ) where
       go false = inr refl
 
   -- 0 exactly where it may be patched
-  pub patched-exactly : (patch words count index offset .number ≡ 0) ↔ MayPatch
+  pub patched-exactly : (patch words count index offset .number ≡ 0) ↔ MayPatch words count index offset
   unfolding patch
   patched-exactly = (λ h. can-may (yes-of (canPatch words count index) h), λ h. rw (may-can h))
     where
@@ -269,17 +238,10 @@ module _ (words : List ℕ) (count index offset : ℕ) where
       yes-of true h = refl
       yes-of false h = absurd (omega arith)
 
-  -- 19 exactly where the index is not below the count, the count is not within the buffer, or the kind is not 41 to 53
-  pub data MayNot : Type 0 where
-    index-past : count ≤ index → MayNot
-    count-past : capacity 4 words < count → MayNot
-    kind-below : kind < 41 → MayNot
-    kind-past : 53 < kind → MayNot
-
-  pub refused-exactly : (patch words count index offset .number ≡ 19) ↔ MayNot
-  refused-exactly = (λ h. why h (decLt index count) (decLe count (capacity 4 words)) (decLe 41 kind) (decLe kind 53), λ h. refuses h only-patching)
+  pub refused-exactly : (patch words count index offset .number ≡ 19) ↔ MayNot words count index offset
+  refused-exactly = (λ h. why h (decLt index count) (decLe count (capacity 4 words)) (decLe 41 (kind words count index offset)) (decLe (kind words count index offset) 53), λ h. refuses h only-patching)
     where
-      why : patch words count index offset .number ≡ 19 → Dec (index < count) → Dec (count ≤ capacity 4 words) → Dec (41 ≤ kind) → Dec (kind ≤ 53) → MayNot
+      why : patch words count index offset .number ≡ 19 → Dec (index < count) → Dec (count ≤ capacity 4 words) → Dec (41 ≤ kind words count index offset) → Dec (kind words count index offset ≤ 53) → MayNot words count index offset
       why h (no a) b c d = index-past (omega arith)
       why h (yes a) (no b) c d = count-past (omega arith)
       why h (yes a) (yes b) (no c) d = kind-below (omega arith)
@@ -288,13 +250,13 @@ module _ (words : List ℕ) (count index offset : ℕ) where
           let z = patched-exactly .1 (record { below = a; within-buffer = b; jump = record { low = c; high = d } }) in
           absurd (omega arith)
 
-      not-both : MayNot → MayPatch → ⊥
+      not-both : MayNot words count index offset → MayPatch words count index offset → ⊥
       not-both (index-past l) p = omega (arith, p .below)
       not-both (count-past l) p = omega (arith, p .within-buffer)
       not-both (kind-below l) p = omega (arith, p .jump .low)
       not-both (kind-past l) p = omega (arith, p .jump .high)
 
-      refuses : MayNot → (patch words count index offset .number ≡ 0) ⊎ (patch words count index offset .number ≡ 19) → patch words count index offset .number ≡ 19
+      refuses : MayNot words count index offset → (patch words count index offset .number ≡ 0) ⊎ (patch words count index offset .number ≡ 19) → patch words count index offset .number ≡ 19
       refuses h (inl e) = absurd (not-both h (patched-exactly .0 e))
       refuses h (inr e) = e
 
@@ -308,25 +270,17 @@ module _ (words : List ℕ) (count index offset : ℕ) where
       go true e = absurd (omega arith)
       go false e = refl
 
-  -- with 0 exactly one word changes, the offset of a jump
-  pub record OneWord (after : List ℕ) : Type 0 where
-    pub same-length : length after ≡ length words
-    pub jump : JumpKind kind
-    pub inside : 4 * index + offsetWord kind < length words
-    pub set-there : getD after (4 * index + offsetWord kind) 0 ≡ offset
-    pub others : (i : ℕ) → i ≢ 4 * index + offsetWord kind → getD after i 0 ≡ getD words i 0
-
-  pub patch-writes-one : patch words count index offset .number ≡ 0 → OneWord (patch words count index offset .code)
+  pub patch-writes-one : patch words count index offset .number ≡ 0 → OneWord words count index offset (patch words count index offset .code)
   unfolding patch withOffset
   patch-writes-one h =
-      let p : MayPatch = patched-exactly .0 h in
-      let small : offsetWord kind < 4 = offset-small kind in
+      let p : MayPatch words count index offset = patched-exactly .0 h in
+      let small : offsetWord (kind words count index offset) < 4 = offset-small (kind words count index offset) in
       let fits : 4 * index + 4 ≤ length words = room 4 words index (omega (arith, p .below, p .within-buffer)) in
       rw (may-can p)
       (record {
-        same-length = length-set words (4 * index + offsetWord kind) offset;
+        same-length = length-set words (4 * index + offsetWord (kind words count index offset)) offset;
         jump = p .jump;
         inside = omega arith;
-        set-there = getD-set-same words (4 * index + offsetWord kind) offset 0 (omega arith);
-        others = λ i n. getD-set-other words (4 * index + offsetWord kind) i offset 0 n;
+        set-there = getD-set-same words (4 * index + offsetWord (kind words count index offset)) offset 0 (omega arith);
+        others = λ i n. getD-set-other words (4 * index + offsetWord (kind words count index offset)) i offset 0 n;
       })

@@ -13,13 +13,10 @@ use Rattle.diagnostics.specs.declared.Refusal.{Refusal}
 use Rattle.words.specs.Records.{capacity}
 use Rattle.words.specs.Words.{words}
 use Rattle.syntax.specs.Ast.{nodeWidth, nodeWord}
-use Rattle.lowering.specs.Tree.{treeOf, Tree, node, children}
+use Rattle.lowering.specs.Tree.{treeOf, Tree}
 use Rattle.lowering.specs.Questions.{Verdict, passed, refused, ask, allBelow, askNode, askNodes, questions, question1, question2, question3, question4, question5, question6, question7, question8}
+use Rattle.lowering.specs.Checked.{Falls}
 use Rattle.lowering.specs.Meaning.{Named, first, later}
-
--- every node that one of the first n names is lower than itself
-abbrev pub Falls : ℕ → Tree → Type 0
-Falls n t = (i c : ℕ) → i < n → Named c (children (t .list) (node t i)) → c < i
 
 and-true : (a b : Bool) → (a && b) ≡ true → (a ≡ true) × (b ≡ true)
 and-true true b e = (refl, e)

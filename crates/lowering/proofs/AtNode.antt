@@ -9,7 +9,7 @@ use lib.Dec.{eqb}
 use Rattle.syntax.specs.declared.ast.Node.{Node}
 use Rattle.syntax.specs.Ast.{absent}
 use Rattle.lowering.specs.Tree.{Tree, node, present, children}
-use Rattle.lowering.proofs.Asked.{Falls}
+use Rattle.lowering.specs.Checked.{Falls}
 use Rattle.lowering.specs.Meaning.{Operators, worth, undefined, Worths, nodeWorth, worthBelow, worthAt, Chosen, conditionAsks, nodeAsks, conditionAsksBelow, asksBelow, OrderPremise, Named, first, later, counts, total, sizeBelow, sizeAt}
 
 -- a node that may be absent

@@ -15,15 +15,11 @@ use Rattle.runtime.specs.Instruction.{wordsOf, offsetWord}
 use Rattle.runtime.specs.Value.{constantWords}
 use Rattle.runtime.specs.Function.{maxInstructions}
 use Rattle.lowering.specs.Tree.{Tree}
-use Rattle.lowering.specs.Walk.{Made, Outcome, Walk}
+use Rattle.lowering.specs.Walk.{Made, Outcome, Walk, left}
 use Rattle.lowering.specs.Steps.{withOffset}
+use Rattle.lowering.specs.Trace.{Runs, Step, takes, gives, leaves, emits, finds, pools, patches, marks, moves, refuses, instructionsOf, constantsOf, marksOf, Marked}
 use Rattle.lowering.proofs.Decode.{words-length, constant-length, offset-small}
-use Rattle.lowering.proofs.Trace.{Runs, Step, takes, gives, leaves, emits, finds, pools, patches, marks, moves, refuses, instructionsOf, constantsOf, marksOf}
-use Rattle.lowering.proofs.Everywhere.{left, along}
-
--- every mark names an instruction
-abbrev pub Marked : Made → Type 0
-Marked m = (k : ℕ) → k < marksOf m → getD (m .marks) k 0 < instructionsOf m
+use Rattle.lowering.proofs.Everywhere.{along}
 
 -- what was made, from m to n
 pub record Grows (m n : Made) : Type 0 where
@@ -262,7 +258,7 @@ module _ {t : Tree} {root : ℕ} where
     marks-fit = λ h. h;
     marked = λ h. h;
   }
-  grows-each {m = m} (refuses own) = grows-refl m
+  grows-each {m = m} (refuses q o) = grows-refl m
 
   -- of any run
   pub runs-grow : {A : Type 0} {w : Walk A} {m : Made} {o : Outcome A} → Runs t root A w m o → Grows m (left o)

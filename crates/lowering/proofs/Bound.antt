@@ -17,15 +17,17 @@ use Rattle.syntax.specs.Ast.{absent}
 use Rattle.runtime.specs.declared.operand.Operand.{Operand}
 use Rattle.lowering.specs.declared.Dest.{Dest}
 use Rattle.lowering.specs.Tree.{Tree, node}
+use Rattle.lowering.specs.Checked.{Checked, Below, CallBelow, MapBelow}
 use Rattle.lowering.specs.Walk.{Walk}
 use Rattle.lowering.specs.Operators.{comparison}
+use Rattle.lowering.specs.Steps.{freeTemp}
 use Rattle.lowering.specs.Lower.{Source, register, constant, nameOf, binarySources, lowerArguments, storeNamed, storeKeyed, lowerEntry, lowerEntries, lowerElse, lowerTail, lowerNode, tested, fusedSources, fused, jumpNode, expressionBelow, jumpBelow, lowerExpression, lowerJumpIfFalse, lowerJumpIfTrue}
-use Rattle.lowering.proofs.Checked.{Checked, Below, CallBelow, MapBelow, checked-below}
+use Rattle.lowering.proofs.Checked.{checked-below}
 
 -- two ways to lower a child that agree below node i
 module _ (t : Tree) (E F : ℕ → Dest → Walk Operand) (i : ℕ) (same : (n : ℕ) → n < i → E n ≡ F n) where
   binarySources-same : (operator : BinaryOp) (left right : ℕ) (d : Register) (a b : Source) → left < i → right < i →
-      binarySources t E operator left right d a b ≡ binarySources t F operator left right d a b
+      binarySources freeTemp t E operator left right d a b ≡ binarySources freeTemp t F operator left right d a b
   unfolding binarySources
   binarySources-same operator left right d (constant a) (constant b) l r = rw (same left l, same right r)
   binarySources-same operator left right d (register a) (constant b) l r = refl
@@ -94,7 +96,7 @@ module _ (t : Tree) (E F : ℕ → Dest → Walk Operand) (i : ℕ) (same : (n :
 
   -- a node is lowered the same by both
   module _ (J K : ℕ → Walk ℕ) (jumps : (n : ℕ) → n < i → J n ≡ K n) where
-    lowerNode-same : (n : Node) (dest : Dest) → Below t i n → lowerNode t E J i n dest ≡ lowerNode t F K i n dest
+    lowerNode-same : (n : Node) (dest : Dest) → Below t i n → lowerNode freeTemp t E J i n dest ≡ lowerNode freeTemp t F K i n dest
     unfolding lowerNode
     lowerNode-same (Node.Number low high) dest b = refl
     lowerNode-same (Node.String symbol) dest b = refl
@@ -154,46 +156,46 @@ module _ (t : Tree) (E F : ℕ → Dest → Walk Operand) (i : ℕ) (same : (n :
 
 module _ {t : Tree} (checked : Checked t) where
   -- one step, by what lowers the children as the bound f does
-  module _ (f i : ℕ) (E : ℕ → Dest → Walk Operand) (same : (n : ℕ) → n < i → expressionBelow t f n ≡ E n) where
-    expression-step : (J : ℕ → Walk ℕ) → ((n : ℕ) → n < i → jumpBelow t f n ≡ J n) → (d : Dest) →
-        expressionBelow t (suc f) i d ≡ lowerNode t E J i (node t i) d
+  module _ (f i : ℕ) (E : ℕ → Dest → Walk Operand) (same : (n : ℕ) → n < i → expressionBelow freeTemp t f n ≡ E n) where
+    expression-step : (J : ℕ → Walk ℕ) → ((n : ℕ) → n < i → jumpBelow freeTemp t f n ≡ J n) → (d : Dest) →
+        expressionBelow freeTemp t (suc f) i d ≡ lowerNode freeTemp t E J i (node t i) d
     unfolding expressionBelow
-    expression-step J jumps d = lowerNode-same t (expressionBelow t f) E i same (jumpBelow t f) J jumps (node t i) d (checked-below checked i)
+    expression-step J jumps d = lowerNode-same t (expressionBelow freeTemp t f) E i same (jumpBelow freeTemp t f) J jumps (node t i) d (checked-below checked i)
 
-    jump-step : jumpBelow t (suc f) i ≡ jumpNode t E false (expressionBelow t (suc f) i) (node t i)
+    jump-step : jumpBelow freeTemp t (suc f) i ≡ jumpNode t E false (expressionBelow freeTemp t (suc f) i) (node t i)
     unfolding expressionBelow jumpBelow
-    jump-step = jumpNode-same t (expressionBelow t f) E i same false (expressionBelow t (suc f) i) (node t i) (checked-below checked i)
+    jump-step = jumpNode-same t (expressionBelow freeTemp t f) E i same false (expressionBelow freeTemp t (suc f) i) (node t i) (checked-below checked i)
 
   -- two bounds above the index
-  two-bounds : (f g i : ℕ) → i < f → i < g → (expressionBelow t f i ≡ expressionBelow t g i) × (jumpBelow t f i ≡ jumpBelow t g i)
+  two-bounds : (f g i : ℕ) → i < f → i < g → (expressionBelow freeTemp t f i ≡ expressionBelow freeTemp t g i) × (jumpBelow freeTemp t f i ≡ jumpBelow freeTemp t g i)
   unfolding expressionBelow jumpBelow
   two-bounds zero g i a b = absurd (omega arith)
   two-bounds (suc f) zero i a b = absurd (omega arith)
   two-bounds (suc f) (suc g) i a b =
-      let same : (n : ℕ) → n < i → expressionBelow t f n ≡ expressionBelow t g n = λ n l. two-bounds f g n (omega arith) (omega arith) .0 in
-      let jumps : (n : ℕ) → n < i → jumpBelow t f n ≡ jumpBelow t g n = λ n l. two-bounds f g n (omega arith) (omega arith) .1 in
-      let own : expressionBelow t (suc f) i ≡ expressionBelow t (suc g) i = fun-ext (expression-step f i (expressionBelow t g) same (jumpBelow t g) jumps) in
-      (own, jump-step f i (expressionBelow t g) same ∙ ap (λ e. jumpNode t (expressionBelow t g) false e (node t i)) own)
+      let same : (n : ℕ) → n < i → expressionBelow freeTemp t f n ≡ expressionBelow freeTemp t g n = λ n l. two-bounds f g n (omega arith) (omega arith) .0 in
+      let jumps : (n : ℕ) → n < i → jumpBelow freeTemp t f n ≡ jumpBelow freeTemp t g n = λ n l. two-bounds f g n (omega arith) (omega arith) .1 in
+      let own : expressionBelow freeTemp t (suc f) i ≡ expressionBelow freeTemp t (suc g) i = fun-ext (expression-step f i (expressionBelow freeTemp t g) same (jumpBelow freeTemp t g) jumps) in
+      (own, jump-step f i (expressionBelow freeTemp t g) same ∙ ap (λ e. jumpNode t (expressionBelow freeTemp t g) false e (node t i)) own)
 
   -- any bound above the index gives the same
-  pub expression-any-bound : (f i : ℕ) → i < f → (d : Dest) → expressionBelow t f i d ≡ lowerExpression t i d
+  pub expression-any-bound : (f i : ℕ) → i < f → (d : Dest) → expressionBelow freeTemp t f i d ≡ lowerExpression freeTemp t i d
   unfolding lowerExpression
   expression-any-bound f i h d = ap (λ (e : Dest → Walk Operand). e d) (two-bounds f (suc i) i h (omega arith) .0)
 
-  pub jump-any-bound : (f i : ℕ) → i < f → jumpBelow t f i ≡ lowerJumpIfFalse t i
+  pub jump-any-bound : (f i : ℕ) → i < f → jumpBelow freeTemp t f i ≡ lowerJumpIfFalse freeTemp t i
   unfolding lowerJumpIfFalse
   jump-any-bound f i h = two-bounds f (suc i) i h (omega arith) .1
 
   -- so a node is lowered by its children's own lowering
-  pub expression-at : (i : ℕ) (d : Dest) → lowerExpression t i d ≡ lowerNode t (lowerExpression t) (lowerJumpIfFalse t) i (node t i) d
+  pub expression-at : (i : ℕ) (d : Dest) → lowerExpression freeTemp t i d ≡ lowerNode freeTemp t (lowerExpression freeTemp t) (lowerJumpIfFalse freeTemp t) i (node t i) d
   unfolding lowerExpression
-  expression-at i d = expression-step i i (lowerExpression t) (λ n l. fun-ext (expression-any-bound i n l)) (lowerJumpIfFalse t) (jump-any-bound i) d
+  expression-at i d = expression-step i i (lowerExpression freeTemp t) (λ n l. fun-ext (expression-any-bound i n l)) (lowerJumpIfFalse freeTemp t) (jump-any-bound i) d
 
-  pub jump-false-at : (i : ℕ) → lowerJumpIfFalse t i ≡ jumpNode t (lowerExpression t) false (lowerExpression t i) (node t i)
+  pub jump-false-at : (i : ℕ) → lowerJumpIfFalse freeTemp t i ≡ jumpNode t (lowerExpression freeTemp t) false (lowerExpression freeTemp t i) (node t i)
   unfolding lowerExpression lowerJumpIfFalse
-  jump-false-at i = jump-step i i (lowerExpression t) (λ n l. fun-ext (expression-any-bound i n l))
+  jump-false-at i = jump-step i i (lowerExpression freeTemp t) (λ n l. fun-ext (expression-any-bound i n l))
 
 -- `lowerJumpIfTrue` is by definition at a node
-pub jump-true-at : (t : Tree) (i : ℕ) → lowerJumpIfTrue t i ≡ jumpNode t (lowerExpression t) true (lowerExpression t i) (node t i)
+pub jump-true-at : (t : Tree) (i : ℕ) → lowerJumpIfTrue freeTemp t i ≡ jumpNode t (lowerExpression freeTemp t) true (lowerExpression freeTemp t i) (node t i)
 unfolding lowerJumpIfTrue
 jump-true-at t i = refl

@@ -12,9 +12,10 @@ use mathlib.Core.List.{List, [], _∷_}
 use lib.ListN.{length}
 use Rattle.lowering.specs.Tree.{Tree, node, children}
 use Rattle.lowering.specs.Questions.{question7}
+use Rattle.lowering.specs.Checked.{Checked}
 use Rattle.lowering.specs.Reach.{anyOf, reachesBelow, countBelow}
 use Rattle.lowering.specs.Meaning.{Named, first, later, Reaches, here, below}
-use Rattle.lowering.proofs.Checked.{Checked, checked-at}
+use Rattle.lowering.proofs.Checked.{checked-at}
 use Rattle.lowering.proofs.Everywhere.{below-named}
 
 -- ---- of a checked tree: a node reaches none above itself

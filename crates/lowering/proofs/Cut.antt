@@ -17,21 +17,15 @@ use Rattle.runtime.specs.declared.instruction.Instruction.{Instruction}
 use Rattle.runtime.specs.Instruction.{wordsOf, hasDestination, offsetWord}
 use Rattle.runtime.specs.Function.{maxInstructions}
 use Rattle.lowering.specs.Tree.{Tree}
-use Rattle.lowering.specs.Walk.{Made, Outcome, Walk}
+use Rattle.lowering.specs.Walk.{Made, Outcome, Walk, left}
 use Rattle.lowering.specs.Steps.{withOffset}
+use Rattle.lowering.specs.Fields.{Field, reg, index, arguments, offset, unused, limit, fields, fieldOf, Narrow, wordsAt}
+use Rattle.lowering.specs.Trace.{Runs, Step, takes, gives, leaves, emits, finds, pools, patches, marks, moves, refuses, JumpKind, instructionsOf, constantsOf, registersOf}
+use Rattle.lowering.specs.Pool.{AllNarrow}
 use Rattle.lowering.proofs.Decode.{words-length, offset-small}
-use Rattle.lowering.proofs.Trace.{Runs, Step, takes, gives, leaves, emits, finds, pools, patches, marks, moves, refuses, JumpKind, Field, reg, index, arguments, offset, unused, limit, fields, fieldOf, Narrow, instructionsOf, constantsOf, registersOf}
 use Rattle.lowering.proofs.Good.{offset-past}
-use Rattle.lowering.proofs.Everywhere.{left, along}
+use Rattle.lowering.proofs.Everywhere.{along}
 use Rattle.lowering.proofs.Beyond.{Grows, grows-refl, grows-trans, grows-each}
-
--- the four words of instruction p
-abbrev pub wordsAt : List ℕ → ℕ → List ℕ
-wordsAt ws p = getD ws (4 * p) 0 ∷ getD ws (4 * p + 1) 0 ∷ getD ws (4 * p + 2) 0 ∷ getD ws (4 * p + 3) 0 ∷ []
-
--- every instruction made fits its fields
-abbrev pub AllNarrow : Made → Type 0
-AllNarrow m = (p : ℕ) → p < instructionsOf m → Narrow (constantsOf m) (wordsAt (m .code) p)
 
 -- the code is inside its buffer and below its limit
 abbrev pub Room : Made → Type 0
@@ -227,7 +221,7 @@ module _ {t : Tree} {root : ℕ} where
       go p z (yes e) =
           rw e (subst (λ ws. Narrow (constantsOf m) ws) (sym (words-set-1 (m .code) place sum inside)) (let n = a place l in (first, n .1, n .2)))
       go p z (no e) = subst (λ ws. Narrow (constantsOf m) ws) (sym (words-other (m .code) place p 1 sum (omega arith) e)) (a p z)
-  narrow-each (refuses o) r a = a
+  narrow-each (refuses q o) r a = a
 
   -- of any run
   pub runs-uncut : {A : Type 0} {w : Walk A} {m : Made} {o : Outcome A} → Runs t root A w m o → Uncut m (left o)

@@ -7,15 +7,16 @@ use mathlib.Core.List.{List}
 use lib.Dec.{ltb}
 use lib.ListN.{length}
 use borrow.Author.Tests.{ltb-true}
-use Rattle.environment.proofs.Laws.{Sound}
+use Rattle.environment.specs.Laws.{Sound}
 use Rattle.lowering.specs.declared.Dest.{Dest}
 use Rattle.lowering.specs.Tree.{Tree, node, children}
 use Rattle.lowering.specs.Questions.{allBelow, question7}
-use Rattle.lowering.specs.Walk.{Made, Outcome, ends, stops, Walk}
+use Rattle.lowering.specs.Checked.{Checked}
+use Rattle.lowering.specs.Walk.{Made, Outcome, Walk, left}
 use Rattle.lowering.specs.Lower.{lowerNode, expressionBelow, jumpBelow, lowerExpression, lowerJumpIfTrue}
 use Rattle.lowering.specs.Meaning.{Named, first, later, Reaches, here, below}
-use Rattle.lowering.proofs.Checked.{Checked, checked-at, checked-fits, and-left, and-right}
-use Rattle.lowering.proofs.Trace.{Runs, step, returns, follows, halts, reads, counts, Step, registersOf}
+use Rattle.lowering.specs.Trace.{Runs, step, returns, follows, halts, reads, counts, Step, registersOf}
+use Rattle.lowering.proofs.Checked.{checked-at, checked-fits, and-left, and-right}
 use Rattle.lowering.proofs.Good.{Good, Target}
 use Rattle.lowering.proofs.Walked.{Lowered, Jumped, node-good, jump-good}
 
@@ -27,11 +28,6 @@ below-named i (later {j = j} {is = is} n) e = below-named i n (and-right (ltb j 
 reaches-child : {t : Tree} {i j c : ℕ} → Reaches t i j → Named c (children (t .list) (node t j)) → Reaches t i c
 reaches-child here n = below n here
 reaches-child (below a r) n = below a (reaches-child r n)
-
--- what was made, by an outcome
-unfoldable pub left : {A : Type 0} → Outcome A → Made
-left (ends a m) = m
-left (stops e m) = m
 
 -- A relation that every step keeps, and that goes on from step to step, holds from the start of a run to its end.
 module _ {t : Tree} {root : ℕ} (R : Made → Made → Type 0) (none : (m : Made) → R m m) (more : (m n o : Made) → R m n → R n o → R m o)
@@ -58,23 +54,23 @@ module _ (t : Tree) (root : ℕ) (checked : Checked t) (few : length (t .names) 
     unfolding expressionBelow jumpBelow
 
     pub expression-runs : (f i : ℕ) → Near f i → (dest : Dest) (m : Made) → Sound (registersOf m) → Target m dest →
-        Good t root (Lowered t root m dest) (expressionBelow t f i dest) m
+        Good t root (Lowered t root m dest) (λ F. expressionBelow F t f i dest) m
     expression-runs zero i h dest m s g = absurd (omega (arith, h .0))
     expression-runs (suc f) i h dest m s g =
-        node-good t root (expressionBelow t f) (Near f) (λ j n. n .1) (λ j n d o q z. expression-runs f j n d o q z) (jumpBelow t f) (λ j n o q. jump-runs f j n o q) few
+        node-good t root (λ F. expressionBelow F t f) (Near f) (λ j n. n .1) (λ j n d o q z. expression-runs f j n d o q z) (λ F. jumpBelow F t f) (λ j n o q. jump-runs f j n o q) few
         i (node t i) (h .1) refl (checked-fits checked i) (near-child h) dest m s g
 
-    pub jump-runs : (f i : ℕ) → Near f i → (m : Made) → Sound (registersOf m) → Good t root (Jumped t root m) (jumpBelow t f i) m
+    pub jump-runs : (f i : ℕ) → Near f i → (m : Made) → Sound (registersOf m) → Good t root (Jumped t root m) (λ F. jumpBelow F t f i) m
     jump-runs zero i h m s = absurd (omega (arith, h .0))
     jump-runs (suc f) i h m s =
-        jump-good t root (expressionBelow t f) (Near f) (λ j n. n .1) (λ j n d o q z. expression-runs f j n d o q z) false
-        (λ d. lowerNode t (expressionBelow t f) (jumpBelow t f) i (node t i) d)
-        (λ n q. node-good t root (expressionBelow t f) (Near f) (λ j k. k .1) (λ j n d o q z. expression-runs f j n d o q z) (jumpBelow t f) (λ j n o q. jump-runs f j n o q) few
+        jump-good t root (λ F. expressionBelow F t f) (Near f) (λ j n. n .1) (λ j n d o q z. expression-runs f j n d o q z) false
+        (λ F d. lowerNode F t (expressionBelow F t f) (jumpBelow F t f) i (node t i) d)
+        (λ n q. node-good t root (λ F. expressionBelow F t f) (Near f) (λ j k. k .1) (λ j n d o q z. expression-runs f j n d o q z) (λ F. jumpBelow F t f) (λ j n o q. jump-runs f j n o q) few
         i (node t i) (h .1) refl (checked-fits checked i) (near-child h) Dest.Any n q tt)
         (node t i) (near-child h) m s
 
-  pub jump-true-runs : (m : Made) → Sound (registersOf m) → Good t root (Jumped t root m) (lowerJumpIfTrue t root) m
+  pub jump-true-runs : (m : Made) → Sound (registersOf m) → Good t root (Jumped t root m) (λ F. lowerJumpIfTrue F t root) m
   unfolding lowerJumpIfTrue lowerExpression
   jump-true-runs m s =
-      jump-good t root (λ i. expressionBelow t (suc i) i) (λ i. Reaches t root i) (λ i r. r) (λ i r. expression-runs (suc i) i (omega arith, r)) true
-      (expressionBelow t (suc root) root) (λ n q. expression-runs (suc root) root (omega arith, here) Dest.Any n q tt) (node t root) (λ c n. reaches-child here n) m s
+      jump-good t root (λ F i. expressionBelow F t (suc i) i) (λ i. Reaches t root i) (λ i r. r) (λ i r. expression-runs (suc i) i (omega arith, r)) true
+      (λ F. expressionBelow F t (suc root) root) (λ n q. expression-runs (suc root) root (omega arith, here) Dest.Any n q tt) (node t root) (λ c n. reaches-child here n) m s

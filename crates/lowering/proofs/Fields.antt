@@ -7,8 +7,9 @@ use Rattle.syntax.specs.declared.ops.UnaryOp.{UnaryOp}
 use Rattle.syntax.specs.declared.ops.Comparison.{Comparison}
 use Rattle.runtime.specs.Instruction.{wordsOf}
 use Rattle.lowering.specs.Operators.{binaryRR, binaryRK, binaryKR, unary, jumpRR, jumpRK, jumpKR, jumpIf}
-use Rattle.lowering.proofs.Trace.{Narrow, JumpKind}
 use lib.ListN.{getD}
+use Rattle.lowering.specs.Fields.{Narrow}
+use Rattle.lowering.specs.Trace.{JumpKind}
 
 -- 0 in a word that is no field, and in an offset
 zero-unused : 0 < 1

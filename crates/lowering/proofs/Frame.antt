@@ -4,7 +4,6 @@ use Prim.Native.Nat.{ℕ, zero, suc, _+_, _≤_, _<_, max}
 use native.Mathlib.Omega.{arith}
 use native.Mathlib.Decide.{decLt, ℕ-discrete}
 use mathlib.Core.Path.{_≡_, refl, ap, _∙_}
-use mathlib.Core.Logic.{_↔_}
 use mathlib.Core.Bool.{Bool, true, false, cond}
 use mathlib.Core.List.{List}
 use lib.ListN.{length}
@@ -13,25 +12,17 @@ use Rattle.words.specs.Words.{words}
 use Rattle.environment.specs.declared.RegisterSet.{RegisterSet}
 use Rattle.environment.specs.Registers.{held, givenBack}
 use Rattle.environment.specs.Environment.{parameters}
-use Rattle.environment.proofs.Laws.{Sound, Takes, take-sound, raised, gives as gives-back, give-sound, parameters-held, parameters-frame, parameters-sound}
+use Rattle.environment.specs.Laws.{Sound, Takes}
+use Rattle.environment.proofs.Laws.{take-sound, raised, gives as gives-back, give-sound, parameters-held, parameters-frame, parameters-sound}
 use Rattle.lowering.specs.Tree.{Tree, treeOf}
-use Rattle.lowering.specs.Walk.{Made, Outcome, ends, Walk}
+use Rattle.lowering.specs.Walk.{Made, Outcome, ends, Walk, left}
 use Rattle.lowering.specs.Steps.{withRegisters}
-use Rattle.lowering.specs.Result.{Lowered, begin, lowerRoot, lower}
-use Rattle.lowering.proofs.Trace.{Runs, step, returns, follows, halts, reads, counts, takes, gives, leaves, emits, finds, pools, patches, marks, moves, refuses, registersOf, Held, Free}
-use Rattle.lowering.proofs.Everywhere.{left}
-use Rattle.lowering.proofs.Came.{Came, before, accepted, stopped, lower-came, few-names, start, first-number, own-number}
-
--- how many of the first n registers are held
-unfoldable pub heldBelow : RegisterSet → ℕ → ℕ
-heldBelow s zero = 0
-heldBelow s (suc n) = cond (held s n) 1 0 + heldBelow s n
-
-abbrev pub heldCount : Made → ℕ
-heldCount m = heldBelow (registersOf m) 256
-
-abbrev pub frameOf : Made → ℕ
-frameOf m = registersOf m .«frame_size»
+use Rattle.lowering.specs.Result.{Lowered, begin, lower}
+use Rattle.lowering.specs.Trace.{Runs, step, returns, follows, halts, reads, counts, takes, gives, leaves, emits, finds, pools, patches, marks, moves, refuses, registersOf, Held, Free}
+use Rattle.lowering.specs.Answers.{start}
+use Rattle.lowering.specs.Frame.{heldBelow, heldCount, frameOf, Smallest, highest, mostHeld, Every, Frames}
+use Rattle.lowering.proofs.Smallest.{smallest-first as first}
+use Rattle.lowering.proofs.Came.{Came, before, accepted, stopped, lower-came, few-names, first-number, own-number}
 
 -- at most f of them, if every held register is below f
 held-most : (s : RegisterSet) (f : ℕ) → ((r : ℕ) → held s r ≡ true → r < f) → (n : ℕ) → (heldBelow s n ≤ f) × (heldBelow s n ≤ n)
@@ -83,62 +74,7 @@ framed-take m s r k sound = go (decLt (frameOf m) (s .«frame_size»))
         omega (arith, few-held (registersOf m) sound, few-held s after)
     go (no l) = omega (arith, k .frame, few-held (registersOf m) sound, few-held s after)
 
--- a register taken where m is made, which leaves the set s
-pub record Smallest (m : Made) (r : ℕ) (s : RegisterSet) : Type 0 where
-  -- it is free, while every smaller one is held
-  pub was-free : Free m r
-  pub smaller-held : (j : ℕ) → j < r → Held m j
-  -- where it raises the frame size, exactly the registers below that are held now
-  pub raises : frameOf m < s .«frame_size» → (j : ℕ) → (j < s .«frame_size») ↔ (held s j ≡ true)
-
 module _ {t : Tree} {root : ℕ} where
-  -- one more than the highest register that a run takes, 0 where it takes none
-  unfoldable pub highest : {A : Type 0} {w : Walk A} {m : Made} {o : Outcome A} → Runs t root A w m o → ℕ
-  highest (step (takes {r = r} k)) = r + 1
-  highest (step (gives r h)) = 0
-  highest (step (leaves r)) = 0
-  highest (step (emits i f l h)) = 0
-  highest (step (finds c l e f)) = 0
-  highest (step (pools o f h)) = 0
-  highest (step (patches j l k)) = 0
-  highest (step (marks i start end z h)) = 0
-  highest (step (moves place l k b)) = 0
-  highest (step (refuses o)) = 0
-  highest returns = 0
-  highest (follows k a b) = max (highest a) (highest b)
-  highest (halts k a) = highest a
-  highest (reads k a) = highest a
-  highest (counts a) = highest a
-
-  -- the most registers held at one moment of a run, its start and end among them
-  unfoldable pub mostHeld : {A : Type 0} {w : Walk A} {m : Made} {o : Outcome A} → Runs t root A w m o → ℕ
-  mostHeld {m = m} {o = o} (step s) = max (heldCount m) (heldCount (left o))
-  mostHeld (returns {m = m}) = heldCount m
-  mostHeld (follows k a b) = max (mostHeld a) (mostHeld b)
-  mostHeld (halts k a) = mostHeld a
-  mostHeld (reads k a) = mostHeld a
-  mostHeld (counts a) = mostHeld a
-
-  -- what holds of every register that a run gives back, and of every one that it takes: G of what was made there and the register, T of what was
-  -- made there, the register and the set that it leaves
-  module _ (G : Made → ℕ → Type 0) (T : Made → ℕ → RegisterSet → Type 0) where
-    abbrev pub Every : {A : Type 0} {w : Walk A} {m : Made} {o : Outcome A} → Runs t root A w m o → Type 0
-    Every (step (takes {m = m} {s = s} {r = r} k)) = T m r s
-    Every (step (gives {m = m} r h)) = G m r
-    Every (step (leaves r)) = Unit {0}
-    Every (step (emits i f l h)) = Unit {0}
-    Every (step (finds c l e f)) = Unit {0}
-    Every (step (pools o f h)) = Unit {0}
-    Every (step (patches j l k)) = Unit {0}
-    Every (step (marks i start end z h)) = Unit {0}
-    Every (step (moves place l k b)) = Unit {0}
-    Every (step (refuses o)) = Unit {0}
-    Every returns = Unit {0}
-    Every (follows k a b) = Every a × Every b
-    Every (halts k a) = Every a
-    Every (reads k a) = Every a
-    Every (counts a) = Every a
-
   -- what a run does to the registers
   record Framed {A : Type 0} {w : Walk A} {m : Made} {o : Outcome A} (r : Runs t root A w m o) : Type 0 where
     pub sound : Sound (registersOf (left o))
@@ -152,7 +88,7 @@ module _ {t : Tree} {root : ℕ} where
   framed {m = m} (step (takes {s = s} {r = r} k)) h =
       record { sound = take-sound k h; by-highest = k .frame; by-most = framed-take m s r k h; at-least = omega arith }
   framed {m = m} (step (gives r k)) h =
-      let g = gives-back (registersOf m) r h in
+      let g = gives-back (registersOf m) r h k in
       record {
         sound = give-sound g h;
         by-highest = omega (arith, g .frame);
@@ -166,7 +102,7 @@ module _ {t : Tree} {root : ℕ} where
   framed {m = m} (step (patches j l k)) h = record { sound = h; by-highest = omega arith; by-most = framed-still m m h h refl; at-least = omega arith }
   framed {m = m} (step (marks i start end z k)) h = record { sound = h; by-highest = omega arith; by-most = framed-still m m h h refl; at-least = omega arith }
   framed {m = m} (step (moves place l k b)) h = record { sound = h; by-highest = omega arith; by-most = framed-still m m h h refl; at-least = omega arith }
-  framed {m = m} (step (refuses o)) h = record { sound = h; by-highest = omega arith; by-most = framed-still m m h h refl; at-least = omega arith }
+  framed {m = m} (step (refuses q o)) h = record { sound = h; by-highest = omega arith; by-most = framed-still m m h h refl; at-least = omega arith }
   framed (returns {m = m}) h = record { sound = h; by-highest = omega arith; by-most = omega (arith, few-held (registersOf m) h); at-least = omega arith }
   framed (follows k a b) h =
       let x = framed a h in
@@ -197,7 +133,7 @@ module _ {t : Tree} {root : ℕ} where
     every (step (patches j l k)) h = tt
     every (step (marks i start end z k)) h = tt
     every (step (moves place l k b)) h = tt
-    every (step (refuses o)) h = tt
+    every (step (refuses q o)) h = tt
     every returns h = tt
     every (follows k a b) h = (every a h, every b (ended a h))
     every (halts k a) h = every a h
@@ -241,22 +177,7 @@ module _ (nodes : List ℕ) (root mode : ℕ) (list names code constants marks :
       let most : heldBelow s 256 ≤ s .«frame_size» = held-most s (s .«frame_size») (sound .below) 256 .0 in
       (frame, omega arith, sound)
 
-  -- Where lowering accepts: a run of good steps from the parameters' registers, which takes the smallest free register at each take and gives back a
-  -- held one at each give-back; the frame size is one more than the highest register taken, the parameters' among them (0 where none was), and it is
-  -- the most held at one moment.
-  pub record Frames (l : Lowered) : Type 1 where
-    pub answer : ℕ
-    pub made : Made
-    -- what the walk comes to
-    pub is : lowerRoot (treeOf nodes list names) mode root from ≡ ends answer made
-    pub run : Runs (treeOf nodes list names) root ℕ (lowerRoot (treeOf nodes list names) mode root) from (ends answer made)
-    pub in-order : Every (λ m r. Held m r) Smallest run
-    pub below-frame : (r : ℕ) → Held made r → r < frameOf made
-    pub size : l .result .frameSize ≡ frameOf made
-    pub one-more : l .result .frameSize ≡ max (length (words names)) (highest run)
-    pub most-held : l .result .frameSize ≡ mostHeld run
-
-  frames : {l : Lowered} → Came nodes root mode list names code constants marks l → l .result .number ≡ 0 → Frames l
+  frames : {l : Lowered} → Came nodes root mode list names code constants marks l → l .result .number ≡ 0 → Frames nodes root mode list names code constants marks l
   unfolding left
   frames (before h) e = absurd (omega (arith, first-number h .0))
   frames (accepted {place = place} {m = m} y q r) e =
@@ -267,7 +188,7 @@ module _ (nodes : List ℕ) (root mode : ℕ) (list names code constants marks :
         made = m;
         is = q;
         run = r;
-        in-order = registers-in-order r (s .2);
+        smallest-first = first (treeOf nodes list names) (y .checked);
         below-frame = x .sound .below;
         size = refl;
         one-more = x .by-highest ∙ ap (λ n. max n (highest r)) (s .0);
@@ -275,5 +196,5 @@ module _ (nodes : List ℕ) (root mode : ℕ) (list names code constants marks :
       }
   frames (stopped y q r o) e = absurd (omega (arith, own-number o .0))
 
-  pub frame-size : lower nodes root mode list names code constants marks .result .number ≡ 0 → Frames (lower nodes root mode list names code constants marks)
+  pub frame-size : lower nodes root mode list names code constants marks .result .number ≡ 0 → Frames nodes root mode list names code constants marks (lower nodes root mode list names code constants marks)
   frame-size = frames (lower-came nodes root mode list names code constants marks)

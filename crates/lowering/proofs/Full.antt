@@ -9,14 +9,16 @@ use Rattle.diagnostics.specs.declared.Error.{Error}
 use Rattle.diagnostics.specs.Refusal.{numberOf}
 use Rattle.words.specs.Records.{capacity, maxCount}
 use Rattle.lowering.specs.Tree.{Tree, treeOf}
-use Rattle.lowering.specs.Walk.{Made, stops}
-use Rattle.lowering.specs.Result.{Lowered, begin, lowerRoot, lower}
+use Rattle.lowering.specs.Walk.{Made, left}
+use Rattle.lowering.specs.Result.{Lowered, begin, lower}
+use Rattle.lowering.specs.Trace.{Own, undeclared, registers, no-else, no-value, code as code-own, constants as constants-own, unmarked, marks as marks-own, no-destination, sum, instructionsOf, constantsOf, marksOf}
+use Rattle.lowering.specs.Answers.{start, markCount}
+use Rattle.lowering.specs.Pool.{Fit}
 use Rattle.lowering.proofs.Checked.{question1-sizes, question2-parts}
-use Rattle.lowering.proofs.Trace.{Own, undeclared, registers, no-else, no-value, code as code-own, constants as constants-own, unmarked, marks as marks-own, no-destination, sum, instructionsOf, constantsOf, marksOf}
-use Rattle.lowering.proofs.Everywhere.{left}
 use Rattle.lowering.proofs.Beyond.{Grows, runs-grow}
-use Rattle.lowering.proofs.Came.{Came, before, accepted, stopped, lower-came, start, first-number}
-use Rattle.lowering.proofs.Reached.{Fit, nothing-cut}
+use Rattle.lowering.proofs.Came.{Came, before, accepted, stopped, lower-came, first-number}
+use Rattle.lowering.proofs.Answers.{walk-marks}
+use Rattle.lowering.proofs.Reached.{nothing-cut}
 use Rattle.lowering.proofs.Pace.{marks-few}
 
 -- what 14 and 16 say of a buffer
@@ -70,14 +72,8 @@ module _ (nodes : List ℕ) (root mode : ℕ) (list names code constants marks :
   constants-full e = full-constants (lower-came nodes root mode list names code constants marks) e (nothing-cut nodes root mode list names code constants marks)
 
   -- 16: no word is left for a mark
-  pub record NoWord (l : Lowered) : Type 0 where
-    pub error : Error
-    pub made : Made
-    -- what the walk comes to
-    pub is : lowerRoot (treeOf nodes list names) mode root from ≡ stops error made
-    pub full : capacity 1 marks ≤ marksOf made
-
-  full-marks : {l : Lowered} → Came nodes root mode list names code constants marks l → l .result .number ≡ 16 → NoWord l
+  full-marks : {l : Lowered} → Came nodes root mode list names code constants marks l → l .result .number ≡ 16 →
+      capacity 1 marks ≤ markCount nodes root mode list names code constants marks
   unfolding left begin
   full-marks (before h) e = absurd (omega (arith, first-number h .1))
   full-marks (accepted y q r) e = absurd (omega arith)
@@ -88,12 +84,8 @@ module _ (nodes : List ℕ) (root mode : ℕ) (list names code constants marks :
       let size = question1-sizes nodes list names (y .size) .few-nodes in
       let bound : marksOf m ≤ 0 + 255 * instructionsOf m + 255 * (root + 1) =
       subst (λ n. marksOf n ≤ 0 + 255 * instructionsOf n + 255 * (root + 1)) (ap left q) (marks-few (treeOf nodes list names) (y .checked) mode root from) in
-      record {
-        error = f;
-        made = m;
-        is = q;
-        full = rw (sym (same-capacity 1 (m .marks) marks (g .marks-length))) (own-marks o e (omega arith));
-      }
+      let full : capacity 1 marks ≤ marksOf m = rw (sym (same-capacity 1 (m .marks) marks (g .marks-length))) (own-marks o e (omega arith)) in
+      omega (arith, walk-marks nodes root mode list names code constants marks y m (ap left q))
 
-  pub marks-full : lower nodes root mode list names code constants marks .result .number ≡ 16 → NoWord (lower nodes root mode list names code constants marks)
+  pub marks-full : lower nodes root mode list names code constants marks .result .number ≡ 16 → capacity 1 marks ≤ markCount nodes root mode list names code constants marks
   marks-full = full-marks (lower-came nodes root mode list names code constants marks)

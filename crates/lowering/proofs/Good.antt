@@ -14,65 +14,80 @@ use borrow.Author.Tests.{ltb-true, ltb-false, eq-eqb, ne-eqb}
 use Rattle.diagnostics.specs.declared.Refusal.{Refusal}
 use Rattle.diagnostics.specs.declared.Place.{Place}
 use Rattle.diagnostics.specs.declared.Error.{Error}
-use Rattle.words.specs.Records.{buffer, append, capacity, recordAt, putRecord, position, maxCount}
+use Rattle.words.specs.Records.{buffer, append, capacity, recordAt, putRecord, position, maxCount, First}
 use Rattle.words.proofs.Records.{record-same, record-other, record-word, append-room, append-full, append-limit}
-use Rattle.words.proofs.Search.{First, position-first, is-record, record-is}
+use Rattle.words.proofs.Search.{position-first, is-record, record-is}
 use Rattle.environment.specs.declared.Register.{Register}
 use Rattle.environment.specs.declared.RegisterSet.{RegisterSet}
 use Rattle.environment.specs.declared.Found.{Found}
 use Rattle.environment.specs.Registers.{held, givenBack}
 use Rattle.environment.specs.Environment.{allocated, freed}
-use Rattle.environment.proofs.Laws.{Sound, Gives, Allocates, Refuses, allocates, allocation-refused, take-sound, gives as gives-back, give-sound}
+use Rattle.environment.specs.Laws.{Sound, Gives, Refuses}
+use Rattle.environment.proofs.Laws.{Allocates, allocates, allocation-refused, take-sound, gives as gives-back, give-sound}
 use Rattle.runtime.specs.declared.instruction.Instruction.{Instruction}
 use Rattle.runtime.specs.declared.operand.Operand.{Operand}
 use Rattle.runtime.specs.Operands.{regOf}
 use Rattle.runtime.specs.Instruction.{wordsOf, offsetWord}
 use Rattle.runtime.specs.Value.{constantWords}
 use Rattle.runtime.specs.Function.{emitInstruction, maxInstructions}
-use Rattle.runtime.proofs.Pool.{Unpooled, store-pooled, store-new}
+use Rattle.runtime.specs.Pool.{Unpooled}
+use Rattle.runtime.proofs.Pool.{store-pooled, store-new}
 use Rattle.syntax.specs.declared.ast.Node.{Node}
 use Rattle.lowering.specs.declared.Dest.{Dest}
 use Rattle.lowering.specs.Tree.{Tree, node, spanStart, spanEnd}
 use Rattle.lowering.specs.Walk.{Made, Outcome, ends, stops, Walk, bind, _>>=_, _>>_, ret, error, unnamed}
-use Rattle.lowering.specs.Steps.{placed, registered, withRegisters, withCode, withConstants, withMarks, withOffset, allocateTemp, destination, freeTemp, emit, store, patchJump, mark}
+use Rattle.lowering.specs.Steps.{placed, registered, withRegisters, withCode, withConstants, withMarks, withOffset, allocateTemp, destination, freeTemp, freeHeld, emit, store, patchJump, mark}
 use Rattle.lowering.specs.Meaning.{Reaches}
+use Rattle.lowering.specs.Fields.{Narrow}
+use Rattle.lowering.specs.Trace.{Runs, step, returns, follows, halts, Step, takes, gives, leaves, emits, finds, pools, patches, marks, refuses, Own, Owned, registersOf, Held, Free, instructionsOf, constantsOf, marksOf, kindAt, JumpKind}
 use Rattle.lowering.proofs.Decode.{words-length, constant-length, offset-small}
 use Rattle.lowering.proofs.Steps.{Holds, fine, void, apart}
-use Rattle.lowering.proofs.Trace.{Runs, step, returns, follows, halts, Step, takes, gives, leaves, emits, finds, pools, patches, marks, refuses, Own, Owned, registersOf, Held, Free, instructionsOf, constantsOf, marksOf, kindAt, JumpKind, Narrow}
 
--- the walk w runs from m, and where it ends, Q holds of the answer and of what is made
-pub record Good (t : Tree) (root : ℕ) {A : Type 0} (Q : A → Made → Type 0) (w : Walk A) (m : Made) : Type 1 where
-  pub runs : Runs t root A w m (w m)
-  pub holds : Holds Q (w m)
+-- what gives a register back
+abbrev pub GiveBack : Type 0
+GiveBack = Register → Walk Unit
+
+-- The walk w, by what gives registers back, runs from m; where it ends, Q holds of the answer and of what is made; and it comes to the same if a
+-- give-back stops where the register is not held.
+pub record Good (t : Tree) (root : ℕ) {A : Type 0} (Q : A → Made → Type 0) (w : GiveBack → Walk A) (m : Made) : Type 1 where
+  pub runs : Runs t root A (w freeTemp) m (w freeTemp m)
+  pub holds : Holds Q (w freeTemp m)
+  pub same : w freeHeld m ≡ w freeTemp m
 
 module _ {t : Tree} {root : ℕ} where
-  chain-at : {A B : Type 0} {P : A → Made → Type 0} {Q : B → Made → Type 0} {w : Walk A} {k : A → Walk B} {m : Made} {o : Outcome A} →
-      Runs t root A w m o → Holds P o → ((a : A) (n : Made) → P a n → Good t root Q (k a) n) →
-      Runs t root B (w >>= k) m (bind o k) × Holds Q (bind o k)
+  chain-at : {A B : Type 0} {P : A → Made → Type 0} {Q : B → Made → Type 0} {w : Walk A} {k : GiveBack → A → Walk B} {m : Made} {o : Outcome A} →
+      Runs t root A w m o → Holds P o → ((a : A) (n : Made) → P a n → Good t root Q (λ F. k F a) n) →
+      Runs t root B (w >>= k freeTemp) m (bind o (k freeTemp)) × Holds Q (bind o (k freeTemp)) × (bind o (k freeHeld) ≡ bind o (k freeTemp))
   unfolding bind
-  chain-at {k = k} r (fine {a = a} {m = n} p) f = (follows k r (f a n p .runs), f a n p .holds)
-  chain-at {k = k} r void f = (halts k r, void)
+  chain-at {k = k} r (fine {a = a} {m = n} p) f = (follows (k freeTemp) r (f a n p .runs), f a n p .holds, f a n p .same)
+  chain-at {k = k} r void f = (halts (k freeTemp) r, void, refl)
 
-  pub chain : {A B : Type 0} {P : A → Made → Type 0} {Q : B → Made → Type 0} {w : Walk A} {k : A → Walk B} {m : Made} →
-      Good t root P w m → ((a : A) (n : Made) → P a n → Good t root Q (k a) n) → Good t root Q (w >>= k) m
-  chain g f = let both = chain-at (g .runs) (g .holds) f in record { runs = both .0; holds = both .1 }
+  pub chain : {A B : Type 0} {P : A → Made → Type 0} {Q : B → Made → Type 0} {w : GiveBack → Walk A} {k : GiveBack → A → Walk B} {m : Made} →
+      Good t root P w m → ((a : A) (n : Made) → P a n → Good t root Q (λ F. k F a) n) → Good t root Q (λ F. w F >>= k F) m
+  chain {k = k} g f =
+      let all = chain-at {k = k} (g .runs) (g .holds) f in
+      record { runs = all .0; holds = all .1; same = ap (λ o. bind o (k freeHeld)) (g .same) ∙ all .2 }
 
-  pub done : {A : Type 0} {Q : A → Made → Type 0} (a : A) {m : Made} → Q a m → Good t root Q (ret a) m
-  done a q = record { runs = returns; holds = fine q }
+  pub done : {A : Type 0} {Q : A → Made → Type 0} (a : A) {m : Made} → Q a m → Good t root Q (λ F. ret a) m
+  done a q = record { runs = returns; holds = fine q; same = refl }
 
-  pub stopped : {A : Type 0} {Q : A → Made → Type 0} {m : Made} (e : Error) → Own t root e m → Good t root Q (λ x. stops e x) m
-  stopped e o = record { runs = step (refuses o); holds = void }
+  pub stopped : {A : Type 0} {Q : A → Made → Type 0} {m : Made} (e : Error) → Own t root e m → Good t root Q (λ F x. stops e x) m
+  stopped e o = record { runs = step (refuses refl o); holds = void; same = refl }
 
-  pub relax : {A : Type 0} {P Q : A → Made → Type 0} {w : Walk A} {m : Made} → Good t root P w m → ((a : A) (n : Made) → P a n → Q a n) → Good t root Q w m
-  relax {A} {P} {Q} {w} {m} g f = record { runs = g .runs; holds = go (g .holds) }
+  pub relax : {A : Type 0} {P Q : A → Made → Type 0} {w : GiveBack → Walk A} {m : Made} → Good t root P w m → ((a : A) (n : Made) → P a n → Q a n) → Good t root Q w m
+  relax {A} {P} {Q} {w} {m} g f = record { runs = g .runs; holds = go (g .holds); same = g .same }
     where
       go : {o : Outcome A} → Holds P o → Holds Q o
       go (fine {a = a} {m = n} p) = fine (f a n p)
       go void = void
 
-  -- a walk that comes to o in one step
-  one : {A : Type 0} {Q : A → Made → Type 0} {w : Walk A} {m : Made} {o : Outcome A} → w m ≡ o → Step t root A w m o → Holds Q o → Good t root Q w m
-  one {A} {Q} {w} {m} e s h = record { runs = subst (λ o. Runs t root A w m o) (sym e) (step s); holds = subst (λ o. Holds Q o) (sym e) h }
+  -- a walk that comes to o in one step, and gives nothing back
+  one : {A : Type 0} {Q : A → Made → Type 0} {w : Walk A} {m : Made} {o : Outcome A} → w m ≡ o → Step t root A w m o → Holds Q o → Good t root Q (λ F. w) m
+  one {A} {Q} {w} {m} e s h = record { runs = subst (λ o. Runs t root A w m o) (sym e) (step s); holds = subst (λ o. Holds Q o) (sym e) h; same = refl }
+
+  -- a walk that stops, under the refusal's own condition
+  refusing : {A : Type 0} {Q : A → Made → Type 0} {w : Walk A} {m : Made} {e : Error} → w m ≡ stops e m → Own t root e m → Good t root Q (λ F. w) m
+  refusing q o = one q (refuses q o) void
 
 -- what every part of the walk keeps: registers stay sound, those held stay held, nothing is taken back, and no instruction changes its kind
 pub record Kept (m n : Made) : Type 0 where
@@ -201,14 +216,14 @@ offset-past kind j = go (ltb kind 41) (ltb kind 42) (ltb kind 44) (ltb kind 54) 
     go false false false false e f = absurd (omega (arith, ltb-false kind 54 f, j .high))
 
 module _ {t : Tree} {root : ℕ} where
-  take-good : (m : Made) → Good t root (Settled m Dest.Any) allocateTemp m
+  take-good : (m : Made) → Good t root (Settled m Dest.Any) (λ F. allocateTemp) m
   unfolding allocateTemp registered
   take-good m = go (allocated Register.Temp (registersOf m) .register) refl
     where
       result : (f : Found) → allocated Register.Temp (registersOf m) .register ≡ f → allocateTemp m ≡ registered f (withRegisters (allocated Register.Temp (registersOf m) .set) m)
       result f e = rw e
 
-      go : (f : Found) → allocated Register.Temp (registersOf m) .register ≡ f → Good t root (Settled m Dest.Any) allocateTemp m
+      go : (f : Found) → allocated Register.Temp (registersOf m) .register ≡ f → Good t root (Settled m Dest.Any) (λ F. allocateTemp) m
       go (Found.At r) e =
           let k : Allocates Register.Temp (registersOf m) r (allocated Register.Temp (registersOf m) .set) = allocates Register.Temp (registersOf m) r e in
           let s : RegisterSet = allocated Register.Temp (registersOf m) .set in
@@ -226,42 +241,45 @@ module _ {t : Tree} {root : ℕ} where
           }))
       go (Found.Refused refusal) e =
           let k : Refuses (registersOf m) refusal (allocated Register.Temp (registersOf m) .set) = allocation-refused Register.Temp (registersOf m) refusal e in
-          one {o = stops (unnamed Refusal.Registers) m}
+          refusing
           (result (Found.Refused refusal) e ∙ ap (λ x. stops (unnamed x) (withRegisters (allocated Register.Temp (registersOf m) .set) m)) (k .reason) ∙ ap (λ x. stops (unnamed Refusal.Registers) (withRegisters x m)) (k .unchanged))
-          (refuses (Own.registers (k .all-held))) void
+          (Own.registers (k .all-held))
 
-  pub destination-good : (m : Made) (dest : Dest) → Target m dest → Good t root (Settled m dest) (destination dest) m
+  pub destination-good : (m : Made) (dest : Dest) → Target m dest → Good t root (Settled m dest) (λ F. destination dest) m
   unfolding destination
   destination-good m (Dest.To d) h = done d (record { kept = kept-refl m; spot = refl; ready = h })
   destination-good m Dest.Any h = take-good m
 
   -- a register that an earlier state did not hold, given back
-  pub give-good : {m₀ m : Made} (r : Register) → Loose m₀ r → Ready m r → Sound (registersOf m) → Kept m₀ m → Good t root (λ u n. Gave m₀ m r n) (freeTemp r) m
-  unfolding freeTemp freed
+  pub give-good : {m₀ m : Made} (r : Register) → Loose m₀ r → Ready m r → Sound (registersOf m) → Kept m₀ m → Good t root (λ u n. Gave m₀ m r n) (λ F. F r) m
+  unfolding freeTemp freeHeld freed
   give-good {m₀} {m} (Register.Temp r) l h sound k =
-      let g : Gives (registersOf m) r (givenBack (registersOf m) r) = gives-back (registersOf m) r sound in
-      one refl (gives r h)
-      (fine (record {
-        kept = record {
-          sound = λ s. give-sound g (k .sound s);
-          held = λ j x. g .others j (apart (registersOf m₀) x l) ∙ k .held j x;
-          more = k .more;
-          pooled = k .pooled;
-          kinds = k .kinds;
-        };
-        still = λ x. still g x;
-        sound = give-sound g sound;
-      }))
+      let g : Gives (registersOf m) r (givenBack (registersOf m) r) = gives-back (registersOf m) r sound h in
+      record {
+        runs = step (gives r h);
+        holds = fine (record {
+          kept = record {
+            sound = λ s. give-sound g (k .sound s);
+            held = λ j x. g .others j (apart (registersOf m₀) x l) ∙ k .held j x;
+            more = k .more;
+            pooled = k .pooled;
+            kinds = k .kinds;
+          };
+          still = λ x. still g x;
+          sound = give-sound g sound;
+        });
+        same = rw h;
+      }
     where
       still : Gives (registersOf m) r (givenBack (registersOf m) r) → (x : Register) → Differ (Register.Temp r) x → Ready m x → Ready (withRegisters (givenBack (registersOf m) r) m) x
       still g (Register.Temp q) d y = g .others q d ∙ y
       still g (Register.Local q) d y = y
   give-good {m₀} {m} (Register.Local r) l h sound k =
-      one {o = ends tt m} refl (leaves r) (fine (record { kept = k; still = λ x d y. y; sound = sound }))
+      record { runs = step (leaves r); holds = fine (record { kept = k; still = λ x d y. y; sound = sound }); same = refl }
 
   -- ---- code
 
-  pub emit-good : (i : Instruction) (m : Made) → Narrow (constantsOf m) (wordsOf i) → Good t root (Emitted i m) (emit i) m
+  pub emit-good : (i : Instruction) (m : Made) → Narrow (constantsOf m) (wordsOf i) → Good t root (Emitted i m) (λ F. emit i) m
   unfolding emit emitInstruction placed
   emit-good i m narrow = go (decLt (instructionsOf m) maxInstructions) (decLt (instructionsOf m) (capacity 4 (m .code)))
     where
@@ -277,7 +295,7 @@ module _ {t : Tree} {root : ℕ} where
           emit i m ≡ stops (unnamed Refusal.Code) m
       refused e = rw e
 
-      go : Dec (instructionsOf m < maxInstructions) → Dec (instructionsOf m < capacity 4 (m .code)) → Good t root (Emitted i m) (emit i) m
+      go : Dec (instructionsOf m < maxInstructions) → Dec (instructionsOf m < capacity 4 (m .code)) → Good t root (Emitted i m) (λ F. emit i) m
       go (yes l) (yes h) =
           one {o = ends (instructionsOf m) (withCode put (instructionsOf m + 1) m)} (made l h) (emits i narrow l h)
           (fine (record {
@@ -293,15 +311,15 @@ module _ {t : Tree} {root : ℕ} where
             registers = refl;
           }))
       go (yes l) (no h) =
-          one {o = stops (unnamed Refusal.Code) m} (refused (append-full (m .code) (instructionsOf m) maxInstructions (wordsOf i) Refusal.Code (rw (words-length i) (omega arith))))
-          (refuses (Own.code (inl (omega arith)))) void
+          refusing (refused (append-full (m .code) (instructionsOf m) maxInstructions (wordsOf i) Refusal.Code (rw (words-length i) (omega arith))))
+          (Own.code (inl (omega arith)))
       go (no l) h =
-          one {o = stops (unnamed Refusal.Code) m} (refused (append-limit (m .code) (instructionsOf m) maxInstructions (wordsOf i) Refusal.Code (omega arith)))
-          (refuses (Own.code (inr (omega arith)))) void
+          refusing (refused (append-limit (m .code) (instructionsOf m) maxInstructions (wordsOf i) Refusal.Code (omega arith)))
+          (Own.code (inr (omega arith)))
 
   -- ---- the pool
 
-  pub store-good : (c : Operand) (m : Made) → Owned t root c → Good t root (Stored m) (store c) m
+  pub store-good : (c : Operand) (m : Made) → Owned t root c → Good t root (Stored m) (λ F. store c) m
   unfolding store placed
   store-good c m owned = go (decLt place n)
     where
@@ -333,18 +351,18 @@ module _ {t : Tree} {root : ℕ} where
           store c m ≡ stops (unnamed Refusal.Constants) m
       refused o e = rw (store-new (m .constants) (constantsOf m) c o, e)
 
-      new : n ≤ place → Dec (n < maxCount) → Dec (n < capacity 3 (m .constants)) → Good t root (Stored m) (store c) m
+      new : n ≤ place → Dec (n < maxCount) → Dec (n < capacity 3 (m .constants)) → Good t root (Stored m) (λ F. store c) m
       new o (yes l) (yes h) =
           one {o = ends n (withConstants put (n + 1) m)} (made o l h) (pools owned (λ q x. unpooled q (omega arith)) h)
           (fine (record { kept = record { sound = λ s. s; held = λ r x. x; more = le-refl _; pooled = omega arith; kinds = λ p q. refl }; inside = omega arith; registers = refl }))
       new o (yes l) (no h) =
-          one {o = stops (unnamed Refusal.Constants) m} (refused o (append-full (m .constants) n maxCount (constantWords c) Refusal.Constants (rw (constant-length c) (omega arith))))
-          (refuses (Own.constants owned (λ q x. unpooled q (omega arith)) (inl (omega arith)))) void
+          refusing (refused o (append-full (m .constants) n maxCount (constantWords c) Refusal.Constants (rw (constant-length c) (omega arith))))
+          (Own.constants owned (λ q x. unpooled q (omega arith)) (inl (omega arith)))
       new o (no l) h =
-          one {o = stops (unnamed Refusal.Constants) m} (refused o (append-limit (m .constants) n maxCount (constantWords c) Refusal.Constants (omega arith)))
-          (refuses (Own.constants owned (λ q x. unpooled q (omega arith)) (inr (omega arith)))) void
+          refusing (refused o (append-limit (m .constants) n maxCount (constantWords c) Refusal.Constants (omega arith)))
+          (Own.constants owned (λ q x. unpooled q (omega arith)) (inr (omega arith)))
 
-      go : Dec (place < n) → Good t root (Stored m) (store c) m
+      go : Dec (place < n) → Good t root (Stored m) (λ F. store c) m
       go (yes l) =
           let search : First (m .constants) (constantWords c) (constantsOf m) 0 place = found-first in
           let there : recordAt 3 (m .constants) place ≡ constantWords c = rw (constant-length c) at (is-record (m .constants) (constantWords c) place (search .found (omega arith)) .1) in
@@ -356,7 +374,7 @@ module _ {t : Tree} {root : ℕ} where
 
   -- ---- jumps
 
-  pub patch-good : (j : ℕ) (m : Made) → j < instructionsOf m → JumpKind (kindAt m j) → Good t root (λ u n. Patched m n) (patchJump j) m
+  pub patch-good : (j : ℕ) (m : Made) → j < instructionsOf m → JumpKind (kindAt m j) → Good t root (λ u n. Patched m n) (λ F. patchJump j) m
   unfolding patchJump withOffset
   patch-good j m l k = one {o = ends tt (withCode (withOffset (m .code) j (instructionsOf m - j)) (instructionsOf m) m)} made (patches j l k)
       (fine (record { kept = record { sound = λ s. s; held = λ r x. x; more = le-refl _; pooled = le-refl _; kinds = other }; registers = refl }))
@@ -374,7 +392,7 @@ module _ {t : Tree} {root : ℕ} where
   -- ---- marks
 
   pub mark-good : (i : ℕ) {callee first count : ℕ} (m : Made) → Reaches t root i → node t i ≡ Node.FunctionCall callee first count →
-      Good t root (λ k n. Patched m n) (mark i (spanStart t i) (spanEnd t i)) m
+      Good t root (λ k n. Patched m n) (λ F. mark i (spanStart t i) (spanEnd t i)) m
   unfolding mark placed
   mark-good i m r e = go (ℕ-discrete (instructionsOf m) 0) (decLt (marksOf m) maxCount) (decLt (marksOf m) (capacity 1 (m .marks)))
     where
@@ -393,15 +411,15 @@ module _ {t : Tree} {root : ℕ} where
       refused z e = rw (ne-eqb (instructionsOf m) 0 z, e)
 
       go : Dec (instructionsOf m ≡ 0) → Dec (marksOf m < maxCount) → Dec (marksOf m < capacity 1 (m .marks)) →
-          Good t root (λ k n. Patched m n) (mark i (spanStart t i) (spanEnd t i)) m
-      go (yes z) a b = one {o = stops (error Refusal.Unmarked i (spanStart t i) (spanEnd t i)) m} (none z) (refuses (Own.unmarked r e z)) void
+          Good t root (λ k n. Patched m n) (λ F. mark i (spanStart t i) (spanEnd t i)) m
+      go (yes z) a b = refusing (none z) (Own.unmarked r e z)
       go (no z) (yes l) (yes h) =
           one {o = ends (marksOf m) (withMarks (putRecord 1 (m .marks) (marksOf m) ((instructionsOf m - 1) ∷ [])) (marksOf m + 1) m)} (made z l h)
           (marks i (spanStart t i) (spanEnd t i) (omega arith) h)
           (fine (record { kept = record { sound = λ s. s; held = λ r x. x; more = le-refl _; pooled = le-refl _; kinds = λ p q. refl }; registers = refl }))
       go (no z) (yes l) (no h) =
-          one {o = stops (unnamed Refusal.Marks) m} (refused z (append-full (m .marks) (marksOf m) maxCount ((instructionsOf m - 1) ∷ []) Refusal.Marks (omega arith)))
-          (refuses (Own.marks (inl (omega arith)))) void
+          refusing (refused z (append-full (m .marks) (marksOf m) maxCount ((instructionsOf m - 1) ∷ []) Refusal.Marks (omega arith)))
+          (Own.marks (inl (omega arith)))
       go (no z) (no l) h =
-          one {o = stops (unnamed Refusal.Marks) m} (refused z (append-limit (m .marks) (marksOf m) maxCount ((instructionsOf m - 1) ∷ []) Refusal.Marks (omega arith)))
-          (refuses (Own.marks (inr (omega arith)))) void
+          refusing (refused z (append-limit (m .marks) (marksOf m) maxCount ((instructionsOf m - 1) ∷ []) Refusal.Marks (omega arith)))
+          (Own.marks (inr (omega arith)))

@@ -4,16 +4,16 @@
 use Prim.Native.Nat.{ℕ, zero, suc, _<_}
 use native.Mathlib.Omega.{arith}
 use mathlib.Core.Path.{_≡_, refl, sym, ap, _∙_}
-use mathlib.Core.Bool.{Bool, true, false, cond, not, _&&_, _||_, Bool·beq, false≢true}
+use mathlib.Core.Bool.{Bool, true, false, cond, not, _&&_, Bool·beq, false≢true}
 use mathlib.Core.List.{List, [], _∷_}
 use mathlib.Core.Option.{Option, none, some}
 use lib.Dec.{eqb}
 use lib.ListN.{replicate}
-use lib.Ieee.{Float, nan, binary64, add, sub, mul, div, rem, neg, lt, le, eq, isNan, ofBits, toBits, nanBits}
+use lib.Ieee.{Float, nan, binary64, lt, le, eq, isNan, ofBits, toBits, nanBits}
 use borrow.Author.Tests.{eqb-true, eqb-false}
 use Rattle.words.specs.Records.{capacity, recordAt, putRecord, sameWords, isAt, positionFrom, position, append}
 use Rattle.words.specs.Words.{wordOf, words, tail, bytesOf}
-use Rattle.environment.specs.Bits.{bit, clear, raise}
+use Rattle.environment.specs.Bits.{bit, clear, flip}
 use Rattle.environment.specs.Environment.{found, allocated, freed, parameters, lookup}
 use Rattle.environment.specs.Registers.{free, takeOut, putBack, smallestFrom, smallestFree, allFree, without, taken, givenBack}
 use Rattle.syntax.specs.Ast.{nodeWord, nodeAt}
@@ -26,100 +26,18 @@ use Rattle.lowering.specs.Lower.{source, sameRegister, nameOf, materiali
 use Rattle.lowering.specs.Operators.{binaryRR, binaryRK, binaryKR, unary, comparison, jumpRR, jumpRK, jumpKR, jumpIf}
 use Rattle.lowering.specs.Questions.{whole, question1, question2, question3, question4, question5, question6, allBelow, question7, question8, askNode, askNodes, questions}
 use Rattle.lowering.specs.Steps.{placed, registered, allocateTemp, freeTemp, destination, emit, store, loadConstant, withOffset, patchJump, mark, patchArgument, patchMarks, patchArguments}
-use Rattle.lowering.specs.Tree.{treeOf, Tree, node, present, entryNodes, children}
+use Rattle.lowering.specs.Tree.{node, present, entryNodes, children}
 use Rattle.lowering.specs.Walk.{bind}
-use Rattle.lowering.specs.Result.{Lowered, result, begin, lowerRoot, answered, lowerChecked, lower}
-use Rattle.lowering.specs.Meaning.{Answer, val, fail, Unary, negate, deref, invert, Binary, subtract, multiply, divide, modulo, property, Compare, equal, unequal, less, lessEqual, Operators, Hypotheses, Ordered, Worth, worth, IfAny, met, lastNamed, operate, nodeWorth, worthBelow, worthAt, OrderAt, conditionAsks, nodeAsks, conditionAsksBelow, asksBelow, OrderPremise, Chosen, Named, first, later, Reaches, here, below, Plain}
+use Rattle.lowering.specs.Result.{result, begin, lowerRoot, answered, lowerChecked, lower}
+use Rattle.lowering.specs.Meaning.{val, Operators, Hypotheses, Ordered, Worth, worth, IfAny, met, lastNamed, operate, nodeWorth, worthBelow, worthAt, OrderAt, conditionAsks, nodeAsks, conditionAsksBelow, asksBelow, OrderPremise, Chosen, Named, first, later, Reaches, here, below, Plain}
 use Rattle.lowering.specs.Machine.{recordIn, fetch, constantAt, constantOf, target, action, returned, lost, Registers, Now, ended, fill, act, stepAt, step, after}
 use Rattle.lowering.specs.Law.{Start}
+use Rattle.lowering.specs.Instance.{Datum, number, string, boolean, nil, Mismatch, numbers, combined, alike, compared, truthful, ieee, unfailing}
+use Rattle.lowering.specs.Examples.{pageNodes, pageTree, page, pageRun, one, two, three, five, ruleTree, rule, ruleRun}
 use Rattle.lowering.proofs.Ieee.{add-order, mul-order, eq-order, order, nan-order}
 use Rattle.lowering.proofs.Accepted.{running-law}
 
 -- ---- the operators
-
-pub data Datum : Type 0 where
-  number : Float → Datum
-  string : ℕ → Datum
-  boolean : Bool → Datum
-  nil : Datum
-
--- an operator that has no answer for its operands
-pub data Mismatch : Type 0 where
-  mismatch : Mismatch
-
-unfoldable pub changed : Unary → Datum → Answer Mismatch Datum
-changed negate (number x) = val (number (neg x))
-changed negate (string s) = fail mismatch
-changed negate (boolean b) = fail mismatch
-changed negate nil = fail mismatch
-changed deref v = fail mismatch
-changed invert (number x) = fail mismatch
-changed invert (string s) = fail mismatch
-changed invert (boolean b) = val (boolean (not b))
-changed invert nil = fail mismatch
-
--- both numbers, or a mismatch
-unfoldable pub numbers : {A : Type 0} → (Float → Float → A) → Datum → Datum → Answer Mismatch A
-numbers f (number x) (number y) = val (f x y)
-numbers f (number x) (string t) = fail mismatch
-numbers f (number x) (boolean c) = fail mismatch
-numbers f (number x) nil = fail mismatch
-numbers f (string s) v = fail mismatch
-numbers f (boolean b) v = fail mismatch
-numbers f nil v = fail mismatch
-
-unfoldable pub combined : Binary → Datum → Datum → Answer Mismatch Datum
-combined Binary.add a b = numbers (λ x y. number (add binary64 x y)) a b
-combined subtract a b = numbers (λ x y. number (sub binary64 x y)) a b
-combined multiply a b = numbers (λ x y. number (mul binary64 x y)) a b
-combined divide a b = numbers (λ x y. number (div binary64 x y)) a b
-combined modulo a b = numbers (λ x y. number (rem binary64 x y)) a b
-combined property a b = fail mismatch
-
--- equal numbers are so by IEEE 754; data of two kinds differ
-unfoldable pub alike : Datum → Datum → Bool
-alike (number x) (number y) = eq x y
-alike (number x) (string t) = false
-alike (number x) (boolean c) = false
-alike (number x) nil = false
-alike (string s) (number y) = false
-alike (string s) (string t) = eqb s t
-alike (string s) (boolean c) = false
-alike (string s) nil = false
-alike (boolean b) (number y) = false
-alike (boolean b) (string t) = false
-alike (boolean b) (boolean c) = Bool·beq b c
-alike (boolean b) nil = false
-alike nil (number y) = false
-alike nil (string t) = false
-alike nil (boolean c) = false
-alike nil nil = true
-
-unfoldable pub compared : Compare → Datum → Datum → Answer Mismatch Bool
-compared equal a b = val (alike a b)
-compared unequal a b = val (not (alike a b))
-compared less a b = numbers lt a b
-compared lessEqual a b = numbers le a b
-
-unfoldable pub truthful : Datum → Answer Mismatch Bool
-truthful (number x) = fail mismatch
-truthful (string s) = fail mismatch
-truthful (boolean b) = val b
-truthful nil = fail mismatch
-
-abbrev pub ieee : Operators
-ieee = record {
-  Value = Datum;
-  Failure = Mismatch;
-  number = number;
-  string = string;
-  boolean = boolean;
-  nil = nil;
-  unary = changed;
-  binary = combined;
-  compare = compared;
-  test = truthful;
-}
 
 -- ---- they keep the hypotheses
 
@@ -202,53 +120,18 @@ nan-unordered x h =
 
 -- ---- the worked page: `if flow < 3 1 else 2`, flow = symbol 7
 
-abbrev pub pageNodes : List ℕ
-pageNodes =
-    4 ∷ 7 ∷ 0 ∷ 0 ∷ 0 ∷ 0
-    ∷ 0 ∷ 0 ∷ 1074266112 ∷ 0 ∷ 0 ∷ 0
-    ∷ 5 ∷ 9 ∷ 0 ∷ 1 ∷ 0 ∷ 0
-    ∷ 0 ∷ 0 ∷ 1072693248 ∷ 0 ∷ 0 ∷ 0
-    ∷ 0 ∷ 0 ∷ 1073741824 ∷ 0 ∷ 0 ∷ 0
-    ∷ 10 ∷ 2 ∷ 3 ∷ 4 ∷ 0 ∷ 0 ∷ []
-
-abbrev pub pageTree : Tree
-pageTree = treeOf (bytesOf pageNodes) [] (bytesOf (7 ∷ []))
-
--- what lowering leaves of it, in buffers of any words with room for eight instructions, four constants and two marks
-unfoldable pub page : Lowered
-page = lower (bytesOf pageNodes) 5 0 [] (bytesOf (7 ∷ [])) (replicate 32 9) (replicate 12 9) (replicate 2 9)
-
 -- it is accepted
 page-accepted : page .result .number ≡ 0
-unfolding page ofBits toBits nanBits capacity recordAt putRecord sameWords isAt positionFrom position append wordOf words tail bytesOf bit clear raise found allocated freed parameters lookup free takeOut putBack smallestFrom smallestFree allFree without taken givenBack nodeWord nodeAt binaryOp unaryOp emitInstruction storeConstant wordsOf hasDestination offsetWord regOf numberOf constantWords source sameRegister nameOf materialized lowerMaterializing moved named binarySources lowerArguments storeNamed storeKeyed lowerEntry lowerEntries lowerElse lowerTail lowerNode tested fusedSources fused jumpNode lowerExpression lowerJumpIfFalse lowerJumpIfTrue expressionBelow jumpBelow binaryRR binaryRK binaryKR unary comparison jumpRR jumpRK jumpKR jumpIf whole question1 question2 question3 question4 question5 question6 allBelow question7 question8 askNode askNodes questions begin lowerRoot answered lowerChecked lower placed registered allocateTemp freeTemp destination emit store loadConstant withOffset patchJump mark patchArgument patchMarks patchArguments present entryNodes children bind
+unfolding page ofBits toBits nanBits capacity recordAt putRecord sameWords isAt positionFrom position append wordOf words tail bytesOf bit clear flip found allocated freed parameters lookup free takeOut putBack smallestFrom smallestFree allFree without taken givenBack nodeWord nodeAt binaryOp unaryOp emitInstruction storeConstant wordsOf hasDestination offsetWord regOf numberOf constantWords source sameRegister nameOf materialized lowerMaterializing moved named binarySources lowerArguments storeNamed storeKeyed lowerEntry lowerEntries lowerElse lowerTail lowerNode tested fusedSources fused jumpNode lowerExpression lowerJumpIfFalse lowerJumpIfTrue expressionBelow jumpBelow binaryRR binaryRK binaryKR unary comparison jumpRR jumpRK jumpKR jumpIf whole question1 question2 question3 question4 question5 question6 allBelow question7 question8 askNode askNodes questions begin lowerRoot answered lowerChecked lower placed registered allocateTemp freeTemp destination emit store loadConstant withOffset patchJump mark patchArgument patchMarks patchArguments present entryNodes children bind
 page-accepted = refl
-
--- a run of it under IEEE 754, with flow and any other registers
-abbrev pub pageRun : Float → Registers ieee → ℕ → Now ieee
-pageRun x rest n =
-    after ieee (constantAt ieee (page .constants) (page .result .constants)) (fetch (page .code) (page .result .instructions)) n
-    (Now.at 0 (fill ieee rest 0 (ieee .number x)))
-
--- 1, 2 and 5 by their bits
-abbrev pub one : Float
-one = numberOf 0 1072693248
-
-abbrev pub two : Float
-two = numberOf 0 1073741824
-
-abbrev pub three : Float
-three = numberOf 0 1074266112
-
-abbrev pub five : Float
-five = numberOf 0 1075052544
 
 -- flow = 2 returns 1 after four steps, flow = 5 returns 2 after three
 pub page-small : (rest : Registers ieee) → pageRun two rest 4 ≡ ended (returned (ieee .number one))
-unfolding page compared numbers alike truthful lt le eq recordIn fetch constantAt constantOf target action act stepAt step after decode ofBits toBits nanBits capacity recordAt putRecord sameWords isAt positionFrom position append wordOf words tail bytesOf bit clear raise found allocated freed parameters lookup free takeOut putBack smallestFrom smallestFree allFree without taken givenBack nodeWord nodeAt binaryOp unaryOp emitInstruction storeConstant wordsOf hasDestination offsetWord regOf numberOf constantWords source sameRegister nameOf materialized lowerMaterializing moved named binarySources lowerArguments storeNamed storeKeyed lowerEntry lowerEntries lowerElse lowerTail lowerNode tested fusedSources fused jumpNode lowerExpression lowerJumpIfFalse lowerJumpIfTrue expressionBelow jumpBelow binaryRR binaryRK binaryKR unary comparison jumpRR jumpRK jumpKR jumpIf whole question1 question2 question3 question4 question5 question6 allBelow question7 question8 askNode askNodes questions begin lowerRoot answered lowerChecked lower placed registered allocateTemp freeTemp destination emit store loadConstant withOffset patchJump mark patchArgument patchMarks patchArguments present entryNodes children bind
+unfolding page compared numbers alike truthful lt le eq recordIn fetch constantAt constantOf target action act stepAt step after decode ofBits toBits nanBits capacity recordAt putRecord sameWords isAt positionFrom position append wordOf words tail bytesOf bit clear flip found allocated freed parameters lookup free takeOut putBack smallestFrom smallestFree allFree without taken givenBack nodeWord nodeAt binaryOp unaryOp emitInstruction storeConstant wordsOf hasDestination offsetWord regOf numberOf constantWords source sameRegister nameOf materialized lowerMaterializing moved named binarySources lowerArguments storeNamed storeKeyed lowerEntry lowerEntries lowerElse lowerTail lowerNode tested fusedSources fused jumpNode lowerExpression lowerJumpIfFalse lowerJumpIfTrue expressionBelow jumpBelow binaryRR binaryRK binaryKR unary comparison jumpRR jumpRK jumpKR jumpIf whole question1 question2 question3 question4 question5 question6 allBelow question7 question8 askNode askNodes questions begin lowerRoot answered lowerChecked lower placed registered allocateTemp freeTemp destination emit store loadConstant withOffset patchJump mark patchArgument patchMarks patchArguments present entryNodes children bind
 page-small rest = refl
 
 pub page-large : (rest : Registers ieee) → pageRun five rest 3 ≡ ended (returned (ieee .number two))
-unfolding page compared numbers alike truthful lt le eq recordIn fetch constantAt constantOf target action act stepAt step after decode ofBits toBits nanBits capacity recordAt putRecord sameWords isAt positionFrom position append wordOf words tail bytesOf bit clear raise found allocated freed parameters lookup free takeOut putBack smallestFrom smallestFree allFree without taken givenBack nodeWord nodeAt binaryOp unaryOp emitInstruction storeConstant wordsOf hasDestination offsetWord regOf numberOf constantWords source sameRegister nameOf materialized lowerMaterializing moved named binarySources lowerArguments storeNamed storeKeyed lowerEntry lowerEntries lowerElse lowerTail lowerNode tested fusedSources fused jumpNode lowerExpression lowerJumpIfFalse lowerJumpIfTrue expressionBelow jumpBelow binaryRR binaryRK binaryKR unary comparison jumpRR jumpRK jumpKR jumpIf whole question1 question2 question3 question4 question5 question6 allBelow question7 question8 askNode askNodes questions begin lowerRoot answered lowerChecked lower placed registered allocateTemp freeTemp destination emit store loadConstant withOffset patchJump mark patchArgument patchMarks patchArguments present entryNodes children bind
+unfolding page compared numbers alike truthful lt le eq recordIn fetch constantAt constantOf target action act stepAt step after decode ofBits toBits nanBits capacity recordAt putRecord sameWords isAt positionFrom position append wordOf words tail bytesOf bit clear flip found allocated freed parameters lookup free takeOut putBack smallestFrom smallestFree allFree without taken givenBack nodeWord nodeAt binaryOp unaryOp emitInstruction storeConstant wordsOf hasDestination offsetWord regOf numberOf constantWords source sameRegister nameOf materialized lowerMaterializing moved named binarySources lowerArguments storeNamed storeKeyed lowerEntry lowerEntries lowerElse lowerTail lowerNode tested fusedSources fused jumpNode lowerExpression lowerJumpIfFalse lowerJumpIfTrue expressionBelow jumpBelow binaryRR binaryRK binaryKR unary comparison jumpRR jumpRK jumpKR jumpIf whole question1 question2 question3 question4 question5 question6 allBelow question7 question8 askNode askNodes questions begin lowerRoot answered lowerChecked lower placed registered allocateTemp freeTemp destination emit store loadConstant withOffset patchJump mark patchArgument patchMarks patchArguments present entryNodes children bind
 page-large rest = refl
 
 -- the law's own way there, for every flow that is not NaN
@@ -257,15 +140,15 @@ chosen : (b : Bool) → Chosen ieee pageTree (λ r. nil) b (Unit {0}) (Unit {0})
 chosen true = tt
 chosen false = tt
 
-page-order : (x : Float) → isNan x ≡ false → OrderPremise ieee pageTree (λ r. number x) 5
-unfolding OrderPremise asksBelow nodeAsks conditionAsksBelow conditionAsks OrderAt worthBelow nodeWorth lastNamed operate compared numbers truthful isNan ofBits toBits nanBits capacity recordAt putRecord sameWords isAt positionFrom position append wordOf words tail bytesOf bit clear raise found allocated freed parameters lookup free takeOut putBack smallestFrom smallestFree allFree without taken givenBack nodeWord nodeAt binaryOp unaryOp emitInstruction storeConstant wordsOf hasDestination offsetWord regOf numberOf constantWords source sameRegister nameOf materialized lowerMaterializing moved named binarySources lowerArguments storeNamed storeKeyed lowerEntry lowerEntries lowerElse lowerTail lowerNode tested fusedSources fused jumpNode lowerExpression lowerJumpIfFalse lowerJumpIfTrue expressionBelow jumpBelow binaryRR binaryRK binaryKR unary comparison jumpRR jumpRK jumpKR jumpIf whole question1 question2 question3 question4 question5 question6 allBelow question7 question8 askNode askNodes questions begin lowerRoot answered lowerChecked lower placed registered allocateTemp freeTemp destination emit store loadConstant withOffset patchJump mark patchArgument patchMarks patchArguments present entryNodes children bind
+pub page-order : (x : Float) → isNan x ≡ false → OrderPremise ieee pageTree (λ r. number x) 5
+unfolding OrderPremise asksBelow nodeAsks conditionAsksBelow conditionAsks OrderAt worthBelow nodeWorth lastNamed operate compared numbers truthful isNan ofBits toBits nanBits capacity recordAt putRecord sameWords isAt positionFrom position append wordOf words tail bytesOf bit clear flip found allocated freed parameters lookup free takeOut putBack smallestFrom smallestFree allFree without taken givenBack nodeWord nodeAt binaryOp unaryOp emitInstruction storeConstant wordsOf hasDestination offsetWord regOf numberOf constantWords source sameRegister nameOf materialized lowerMaterializing moved named binarySources lowerArguments storeNamed storeKeyed lowerEntry lowerEntries lowerElse lowerTail lowerNode tested fusedSources fused jumpNode lowerExpression lowerJumpIfFalse lowerJumpIfTrue expressionBelow jumpBelow binaryRR binaryRK binaryKR unary comparison jumpRR jumpRK jumpKR jumpIf whole question1 question2 question3 question4 question5 question6 allBelow question7 question8 askNode askNodes questions begin lowerRoot answered lowerChecked lower placed registered allocateTemp freeTemp destination emit store loadConstant withOffset patchJump mark patchArgument patchMarks patchArguments present entryNodes children bind
 page-order x p =
     let o = numbers-ordered x three p refl in
     ((tt, met tt), met (met (o .0, o .1)), met (chosen (lt x three)))
 
 -- what the page is worth
-page-worth : (x : Float) → worthAt ieee pageTree (λ r. number x) 5 ≡ worth (number (cond (lt x three) one two))
-unfolding worthAt worthBelow nodeWorth lastNamed operate compared numbers truthful ofBits toBits nanBits capacity recordAt putRecord sameWords isAt positionFrom position append wordOf words tail bytesOf bit clear raise found allocated freed parameters lookup free takeOut putBack smallestFrom smallestFree allFree without taken givenBack nodeWord nodeAt binaryOp unaryOp emitInstruction storeConstant wordsOf hasDestination offsetWord regOf numberOf constantWords source sameRegister nameOf materialized lowerMaterializing moved named binarySources lowerArguments storeNamed storeKeyed lowerEntry lowerEntries lowerElse lowerTail lowerNode tested fusedSources fused jumpNode lowerExpression lowerJumpIfFalse lowerJumpIfTrue expressionBelow jumpBelow binaryRR binaryRK binaryKR unary comparison jumpRR jumpRK jumpKR jumpIf whole question1 question2 question3 question4 question5 question6 allBelow question7 question8 askNode askNodes questions begin lowerRoot answered lowerChecked lower placed registered allocateTemp freeTemp destination emit store loadConstant withOffset patchJump mark patchArgument patchMarks patchArguments present entryNodes children bind
+pub page-worth : (x : Float) → worthAt ieee pageTree (λ r. number x) 5 ≡ worth (number (cond (lt x three) one two))
+unfolding worthAt worthBelow nodeWorth lastNamed operate compared numbers truthful ofBits toBits nanBits capacity recordAt putRecord sameWords isAt positionFrom position append wordOf words tail bytesOf bit clear flip found allocated freed parameters lookup free takeOut putBack smallestFrom smallestFree allFree without taken givenBack nodeWord nodeAt binaryOp unaryOp emitInstruction storeConstant wordsOf hasDestination offsetWord regOf numberOf constantWords source sameRegister nameOf materialized lowerMaterializing moved named binarySources lowerArguments storeNamed storeKeyed lowerEntry lowerEntries lowerElse lowerTail lowerNode tested fusedSources fused jumpNode lowerExpression lowerJumpIfFalse lowerJumpIfTrue expressionBelow jumpBelow binaryRR binaryRK binaryKR unary comparison jumpRR jumpRK jumpKR jumpIf whole question1 question2 question3 question4 question5 question6 allBelow question7 question8 askNode askNodes questions begin lowerRoot answered lowerChecked lower placed registered allocateTemp freeTemp destination emit store loadConstant withOffset patchJump mark patchArgument patchMarks patchArguments present entryNodes children bind
 page-worth x = go (lt x three)
   where
     go : (b : Bool) → _≡_ {A = Worth Mismatch Datum} (cond b (worth (number one)) (worth (number two))) (worth (number (cond b one two)))
@@ -282,7 +165,7 @@ named-under n first u = u .0
 named-under n (later m) u = named-under n m (u .1)
 
 page-closed : (i : ℕ) → i < 6 → Under 6 (children (pageTree .list) (node pageTree i))
-unfolding ofBits toBits nanBits capacity recordAt putRecord sameWords isAt positionFrom position append wordOf words tail bytesOf bit clear raise found allocated freed parameters lookup free takeOut putBack smallestFrom smallestFree allFree without taken givenBack nodeWord nodeAt binaryOp unaryOp emitInstruction storeConstant wordsOf hasDestination offsetWord regOf numberOf constantWords source sameRegister nameOf materialized lowerMaterializing moved named binarySources lowerArguments storeNamed storeKeyed lowerEntry lowerEntries lowerElse lowerTail lowerNode tested fusedSources fused jumpNode lowerExpression lowerJumpIfFalse lowerJumpIfTrue expressionBelow jumpBelow binaryRR binaryRK binaryKR unary comparison jumpRR jumpRK jumpKR jumpIf whole question1 question2 question3 question4 question5 question6 allBelow question7 question8 askNode askNodes questions begin lowerRoot answered lowerChecked lower placed registered allocateTemp freeTemp destination emit store loadConstant withOffset patchJump mark patchArgument patchMarks patchArguments present entryNodes children bind
+unfolding ofBits toBits nanBits capacity recordAt putRecord sameWords isAt positionFrom position append wordOf words tail bytesOf bit clear flip found allocated freed parameters lookup free takeOut putBack smallestFrom smallestFree allFree without taken givenBack nodeWord nodeAt binaryOp unaryOp emitInstruction storeConstant wordsOf hasDestination offsetWord regOf numberOf constantWords source sameRegister nameOf materialized lowerMaterializing moved named binarySources lowerArguments storeNamed storeKeyed lowerEntry lowerEntries lowerElse lowerTail lowerNode tested fusedSources fused jumpNode lowerExpression lowerJumpIfFalse lowerJumpIfTrue expressionBelow jumpBelow binaryRR binaryRK binaryKR unary comparison jumpRR jumpRK jumpKR jumpIf whole question1 question2 question3 question4 question5 question6 allBelow question7 question8 askNode askNodes questions begin lowerRoot answered lowerChecked lower placed registered allocateTemp freeTemp destination emit store loadConstant withOffset patchJump mark patchArgument patchMarks patchArguments present entryNodes children bind
 page-closed zero h = tt
 page-closed (suc zero) h = tt
 page-closed (suc (suc zero)) h = (omega arith, (omega arith, tt))
@@ -296,7 +179,7 @@ page-reach here h = h
 page-reach (below {i = i} n r) h = page-reach r (named-under 6 n (page-closed i h))
 
 page-kinds : (i : ℕ) → i < 6 → Plain (node pageTree i)
-unfolding Plain ofBits toBits nanBits capacity recordAt putRecord sameWords isAt positionFrom position append wordOf words tail bytesOf bit clear raise found allocated freed parameters lookup free takeOut putBack smallestFrom smallestFree allFree without taken givenBack nodeWord nodeAt binaryOp unaryOp emitInstruction storeConstant wordsOf hasDestination offsetWord regOf numberOf constantWords source sameRegister nameOf materialized lowerMaterializing moved named binarySources lowerArguments storeNamed storeKeyed lowerEntry lowerEntries lowerElse lowerTail lowerNode tested fusedSources fused jumpNode lowerExpression lowerJumpIfFalse lowerJumpIfTrue expressionBelow jumpBelow binaryRR binaryRK binaryKR unary comparison jumpRR jumpRK jumpKR jumpIf whole question1 question2 question3 question4 question5 question6 allBelow question7 question8 askNode askNodes questions begin lowerRoot answered lowerChecked lower placed registered allocateTemp freeTemp destination emit store loadConstant withOffset patchJump mark patchArgument patchMarks patchArguments present entryNodes children bind
+unfolding Plain ofBits toBits nanBits capacity recordAt putRecord sameWords isAt positionFrom position append wordOf words tail bytesOf bit clear flip found allocated freed parameters lookup free takeOut putBack smallestFrom smallestFree allFree without taken givenBack nodeWord nodeAt binaryOp unaryOp emitInstruction storeConstant wordsOf hasDestination offsetWord regOf numberOf constantWords source sameRegister nameOf materialized lowerMaterializing moved named binarySources lowerArguments storeNamed storeKeyed lowerEntry lowerEntries lowerElse lowerTail lowerNode tested fusedSources fused jumpNode lowerExpression lowerJumpIfFalse lowerJumpIfTrue expressionBelow jumpBelow binaryRR binaryRK binaryKR unary comparison jumpRR jumpRK jumpKR jumpIf whole question1 question2 question3 question4 question5 question6 allBelow question7 question8 askNode askNodes questions begin lowerRoot answered lowerChecked lower placed registered allocateTemp freeTemp destination emit store loadConstant withOffset patchJump mark patchArgument patchMarks patchArguments present entryNodes children bind
 page-kinds zero h = tt
 page-kinds (suc zero) h = tt
 page-kinds (suc (suc zero)) h = tt
@@ -308,7 +191,7 @@ page-kinds (suc (suc (suc (suc (suc (suc i)))))) h = absurd (omega arith)
 page-plain : (i : ℕ) → Reaches pageTree 5 i → Plain (node pageTree i)
 page-plain i r = page-kinds i (page-reach r (omega arith))
 
-page-start : (x : Float) → isNan x ≡ false → (R : Registers ieee) → R 0 ≡ number x → Start pageTree 5
+unfoldable pub page-start : (x : Float) → isNan x ≡ false → (R : Registers ieee) → R 0 ≡ number x → Start pageTree 5
 unfolding words bytesOf wordOf
 page-start x p R h = record {
   operators = ieee;
@@ -328,33 +211,14 @@ page-returns x p rest =
 
 -- ---- NaN: `if x < 1 1 else 2`, x = symbol 7, the smallest rule that shows it
 
-abbrev pub ruleNodes : List ℕ
-ruleNodes =
-    4 ∷ 7 ∷ 0 ∷ 0 ∷ 0 ∷ 0
-    ∷ 0 ∷ 0 ∷ 1072693248 ∷ 0 ∷ 0 ∷ 0
-    ∷ 5 ∷ 9 ∷ 0 ∷ 1 ∷ 0 ∷ 0
-    ∷ 0 ∷ 0 ∷ 1073741824 ∷ 0 ∷ 0 ∷ 0
-    ∷ 10 ∷ 2 ∷ 1 ∷ 3 ∷ 0 ∷ 0 ∷ []
-
-abbrev pub ruleTree : Tree
-ruleTree = treeOf (bytesOf ruleNodes) [] (bytesOf (7 ∷ []))
-
-unfoldable pub rule : Lowered
-rule = lower (bytesOf ruleNodes) 4 0 [] (bytesOf (7 ∷ [])) (replicate 32 9) (replicate 12 9) (replicate 2 9)
-
-abbrev pub ruleRun : Float → Registers ieee → ℕ → Now ieee
-ruleRun x rest n =
-    after ieee (constantAt ieee (rule .constants) (rule .result .constants)) (fetch (rule .code) (rule .result .instructions)) n
-    (Now.at 0 (fill ieee rest 0 (number x)))
-
 -- the test is false, so the rule is worth 2
 nan-worth : worthAt ieee ruleTree (λ r. number nan) 4 ≡ worth (number two)
-unfolding worthAt worthBelow nodeWorth lastNamed operate compared numbers truthful lt ofBits toBits nanBits capacity recordAt putRecord sameWords isAt positionFrom position append wordOf words tail bytesOf bit clear raise found allocated freed parameters lookup free takeOut putBack smallestFrom smallestFree allFree without taken givenBack nodeWord nodeAt binaryOp unaryOp emitInstruction storeConstant wordsOf hasDestination offsetWord regOf numberOf constantWords source sameRegister nameOf materialized lowerMaterializing moved named binarySources lowerArguments storeNamed storeKeyed lowerEntry lowerEntries lowerElse lowerTail lowerNode tested fusedSources fused jumpNode lowerExpression lowerJumpIfFalse lowerJumpIfTrue expressionBelow jumpBelow binaryRR binaryRK binaryKR unary comparison jumpRR jumpRK jumpKR jumpIf whole question1 question2 question3 question4 question5 question6 allBelow question7 question8 askNode askNodes questions begin lowerRoot answered lowerChecked lower placed registered allocateTemp freeTemp destination emit store loadConstant withOffset patchJump mark patchArgument patchMarks patchArguments present entryNodes children bind
+unfolding worthAt worthBelow nodeWorth lastNamed operate compared numbers truthful lt ofBits toBits nanBits capacity recordAt putRecord sameWords isAt positionFrom position append wordOf words tail bytesOf bit clear flip found allocated freed parameters lookup free takeOut putBack smallestFrom smallestFree allFree without taken givenBack nodeWord nodeAt binaryOp unaryOp emitInstruction storeConstant wordsOf hasDestination offsetWord regOf numberOf constantWords source sameRegister nameOf materialized lowerMaterializing moved named binarySources lowerArguments storeNamed storeKeyed lowerEntry lowerEntries lowerElse lowerTail lowerNode tested fusedSources fused jumpNode lowerExpression lowerJumpIfFalse lowerJumpIfTrue expressionBelow jumpBelow binaryRR binaryRK binaryKR unary comparison jumpRR jumpRK jumpKR jumpIf whole question1 question2 question3 question4 question5 question6 allBelow question7 question8 askNode askNodes questions begin lowerRoot answered lowerChecked lower placed registered allocateTemp freeTemp destination emit store loadConstant withOffset patchJump mark patchArgument patchMarks patchArguments present entryNodes children bind
 nan-worth = refl
 
 -- the code returns 1
 nan-then : (rest : Registers ieee) → ruleRun nan rest 4 ≡ ended (returned (number one))
-unfolding rule compared numbers alike truthful lt le eq recordIn fetch constantAt constantOf target action act stepAt step after decode ofBits toBits nanBits capacity recordAt putRecord sameWords isAt positionFrom position append wordOf words tail bytesOf bit clear raise found allocated freed parameters lookup free takeOut putBack smallestFrom smallestFree allFree without taken givenBack nodeWord nodeAt binaryOp unaryOp emitInstruction storeConstant wordsOf hasDestination offsetWord regOf numberOf constantWords source sameRegister nameOf materialized lowerMaterializing moved named binarySources lowerArguments storeNamed storeKeyed lowerEntry lowerEntries lowerElse lowerTail lowerNode tested fusedSources fused jumpNode lowerExpression lowerJumpIfFalse lowerJumpIfTrue expressionBelow jumpBelow binaryRR binaryRK binaryKR unary comparison jumpRR jumpRK jumpKR jumpIf whole question1 question2 question3 question4 question5 question6 allBelow question7 question8 askNode askNodes questions begin lowerRoot answered lowerChecked lower placed registered allocateTemp freeTemp destination emit store loadConstant withOffset patchJump mark patchArgument patchMarks patchArguments present entryNodes children bind
+unfolding rule compared numbers alike truthful lt le eq recordIn fetch constantAt constantOf target action act stepAt step after decode ofBits toBits nanBits capacity recordAt putRecord sameWords isAt positionFrom position append wordOf words tail bytesOf bit clear flip found allocated freed parameters lookup free takeOut putBack smallestFrom smallestFree allFree without taken givenBack nodeWord nodeAt binaryOp unaryOp emitInstruction storeConstant wordsOf hasDestination offsetWord regOf numberOf constantWords source sameRegister nameOf materialized lowerMaterializing moved named binarySources lowerArguments storeNamed storeKeyed lowerEntry lowerEntries lowerElse lowerTail lowerNode tested fusedSources fused jumpNode lowerExpression lowerJumpIfFalse lowerJumpIfTrue expressionBelow jumpBelow binaryRR binaryRK binaryKR unary comparison jumpRR jumpRK jumpKR jumpIf whole question1 question2 question3 question4 question5 question6 allBelow question7 question8 askNode askNodes questions begin lowerRoot answered lowerChecked lower placed registered allocateTemp freeTemp destination emit store loadConstant withOffset patchJump mark patchArgument patchMarks patchArguments present entryNodes children bind
 nan-then rest = refl
 
 met-worth : {F A : Type 0} {K : A → Type 0} {a : A} → IfAny {F = F} K (worth a) → K a
@@ -362,7 +226,7 @@ met-worth (met k) = k
 
 -- the order premise does not hold there
 nan-premise : OrderPremise ieee ruleTree (λ r. number nan) 4 → ⊥
-unfolding OrderPremise asksBelow nodeAsks conditionAsksBelow conditionAsks OrderAt worthBelow nodeWorth lastNamed operate compared numbers truthful isNan ofBits toBits nanBits capacity recordAt putRecord sameWords isAt positionFrom position append wordOf words tail bytesOf bit clear raise found allocated freed parameters lookup free takeOut putBack smallestFrom smallestFree allFree without taken givenBack nodeWord nodeAt binaryOp unaryOp emitInstruction storeConstant wordsOf hasDestination offsetWord regOf numberOf constantWords source sameRegister nameOf materialized lowerMaterializing moved named binarySources lowerArguments storeNamed storeKeyed lowerEntry lowerEntries lowerElse lowerTail lowerNode tested fusedSources fused jumpNode lowerExpression lowerJumpIfFalse lowerJumpIfTrue expressionBelow jumpBelow binaryRR binaryRK binaryKR unary comparison jumpRR jumpRK jumpKR jumpIf whole question1 question2 question3 question4 question5 question6 allBelow question7 question8 askNode askNodes questions begin lowerRoot answered lowerChecked lower placed registered allocateTemp freeTemp destination emit store loadConstant withOffset patchJump mark patchArgument patchMarks patchArguments present entryNodes children bind
+unfolding OrderPremise asksBelow nodeAsks conditionAsksBelow conditionAsks OrderAt worthBelow nodeWorth lastNamed operate compared numbers truthful isNan ofBits toBits nanBits capacity recordAt putRecord sameWords isAt positionFrom position append wordOf words tail bytesOf bit clear flip found allocated freed parameters lookup free takeOut putBack smallestFrom smallestFree allFree without taken givenBack nodeWord nodeAt binaryOp unaryOp emitInstruction storeConstant wordsOf hasDestination offsetWord regOf numberOf constantWords source sameRegister nameOf materialized lowerMaterializing moved named binarySources lowerArguments storeNamed storeKeyed lowerEntry lowerEntries lowerElse lowerTail lowerNode tested fusedSources fused jumpNode lowerExpression lowerJumpIfFalse lowerJumpIfTrue expressionBelow jumpBelow binaryRR binaryRK binaryKR unary comparison jumpRR jumpRK jumpKR jumpIf whole question1 question2 question3 question4 question5 question6 allBelow question7 question8 askNode askNodes questions begin lowerRoot answered lowerChecked lower placed registered allocateTemp freeTemp destination emit store loadConstant withOffset patchJump mark patchArgument patchMarks patchArguments present entryNodes children bind
 nan-premise h = nan-unordered one (met-worth (met-worth (h .1)) .0)
 
 -- "With a NaN the then-branch runs, where IEEE 754 says the test is false.": the rule is worth 2 and its code returns 1, for the premise fails
@@ -373,20 +237,6 @@ pub nan-runs-then : (rest : Registers ieee) →
 nan-runs-then rest = (nan-premise, nan-worth, nan-then rest)
 
 -- ---- no failure at all: two values, and operators that always answer
-
-abbrev pub unfailing : Operators
-unfailing = record {
-  Value = Bool;
-  Failure = ⊥;
-  number = λ x. true;
-  string = λ s. true;
-  boolean = λ b. b;
-  nil = false;
-  unary = λ o a. val (not a);
-  binary = λ o a b. val (a && b);
-  compare = λ o a b. elim o [ equal ↦ val (Bool·beq a b) | unequal ↦ val (not (Bool·beq a b)) | less ↦ val (not a && b) | lessEqual ↦ val (not a || b) ];
-  test = λ a. val a;
-}
 
 and-order : (a b : Bool) → (a && b) ≡ (b && a)
 and-order true true = refl

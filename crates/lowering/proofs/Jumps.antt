@@ -1,12 +1,13 @@
--- The condition of an if, and the if itself, keep the promise, if their children do. Assumes nothing.
+-- A condition, of either sense, and the if keep the promise, if their children do. Assumes nothing.
 use Prim.Native.Nat.{ℕ, suc, _+_, _-_, _≤_, _<_}
 use native.Mathlib.Omega.{arith}
 use native.Mathlib.Nat.{le-refl}
-use mathlib.Core.Path.{_≡_, refl, sym, ap, _∙_, subst₂}
+use mathlib.Core.Path.{_≡_, refl, sym, ap, _∙_, subst, subst₂}
 use mathlib.Core.Bool.{Bool, true, false, cond, Bool·beq}
 use mathlib.Core.List.{[], _∷_}
 use mathlib.Core.Option.{some}
 use lib.Dec.{eqb}
+use lib.ListN.{getD}
 use Rattle.diagnostics.specs.declared.Refusal.{Refusal}
 use Rattle.environment.specs.declared.Register.{Register}
 use Rattle.syntax.specs.declared.ast.Node.{Node}
@@ -22,26 +23,30 @@ use Rattle.lowering.specs.declared.Dest.{Dest}
 use Rattle.lowering.specs.Tree.{Tree, present}
 use Rattle.lowering.specs.Walk.{Made, Walk, bind, _>>=_, _>>_}
 use Rattle.lowering.specs.Operators.{comparison, jumpRR, jumpRK, jumpKR, jumpIf}
+use Rattle.lowering.specs.Steps.{freeTemp}
 use Rattle.lowering.specs.Lower.{Source, source, lowerMaterializing, lowerElse, lowerNode, refuse, tested, fusedSources, fused}
-use Rattle.lowering.specs.Meaning.{Operators, opposite, Hypotheses, truth, OrderAt, Worth, undefined, given, andThen, IfAny, operate, tests, Chosen, Named, first, total}
-use Rattle.lowering.specs.Machine.{Ending, failed, Registers, action, act, onward, branch, stepAt}
+use Rattle.lowering.specs.Meaning.{Operators, Hypotheses, truth, OrderAt, Worth, undefined, given, andThen, IfAny, operate, tests, Chosen, AtRoot, Named, first, total}
+use Rattle.lowering.specs.Machine.{target, Ending, failed, Registers, action, act, onward, branch, stepAt}
+use Rattle.lowering.specs.Trace.{JumpKind}
 use Rattle.lowering.proofs.Decode.{constant, constant-words, aim}
 use Rattle.lowering.proofs.Steps.{Holds, fine, void, chain, weaken, count, recordOf, Room, Grown, grown-refl, grown-trans, grown-at, Emitted, Patched, emit-holds, patch-holds, pool-holds}
-use Rattle.lowering.proofs.Runs.{After, after-bind, ask-bind, after-map, after-ask, Known, known-bind, known-given, after-pair, World, Run, moved, step-words, run-branch, run-jump, ask-pair, after-opposite, after-truth, after-given, asked, OrderOf, Branches, jump-RR, jump-RK, jump-KR}
+use Rattle.lowering.proofs.Fields.{kind-jump-RR, kind-jump-RK, kind-jump-KR, kind-jump-if}
+use Rattle.lowering.proofs.Runs.{After, after-bind, ask-bind, after-map, after-ask, Known, known-bind, known-given, after-pair, sensed, after-sensed, premise-pair, premise-map, after-truth, after-given, World, up, Run, Onto, moved, step-words, target-forward, run-goes, run-jump, asked, OrderOf, Branches, sense-RR, sense-RK, sense-KR}
 use Rattle.lowering.proofs.Post.{Final, earlier, past-patch, Spot, Target, Owns, grown-owns, Aimed, destination-good, Params, Keeps, Onward, params-kept, Lowered, Expr, literal, materialized-good}
-use Rattle.lowering.proofs.Nodes.{loose-back, Den, ready, Couple, couple, Pools, resized, false-tests, Lowers, settle, good-M}
+use Rattle.lowering.proofs.Nodes.{loose-back, Den, ready, Couple, couple, Pools, resized, sense-tests, Lowers, settle, good-M}
 
 module _ (M : Operators) (args : ℕ → M .Value) (arity : ℕ) where
-  -- a condition: a jump at place j, to be patched by the if, goes past the then-branch where the test is false
-  pub record Jumped (m : Made) (s : ℕ) (fair : Type 0) (ans : Worth (M .Failure) (M .Value)) (j : ℕ) (m' : Made) : Type 0 where
+  -- a condition: a jump at place j, to be patched, goes to a goal where the test gives `sense`, else one on
+  pub record Jumped (sense : Bool) (m : Made) (s : ℕ) (fair : Type 0) (ans : Worth (M .Failure) (M .Value)) (j : ℕ) (m' : Made) : Type 0 where
     pub grown : Grown (count m) m m'
     pub start : count m ≤ j
     pub level : count m' ≡ suc j
     pub short : count m' ≤ count m + s + 1
     pub known : Known ans
-    pub sim : (laws : Hypotheses M) (w : World M) (k : ℕ) → 0 < k → k < 2147483648 → Final w (count m) j m' →
+    pub jump : JumpKind (getD (recordOf m' j) 0 0)
+    pub sim : (laws : Hypotheses M) (w : World M) (k goal : ℕ) → target (w .base + j) k ≡ some goal → Final w (count m) j m' →
         w .code (w .base + j) ≡ decode (aim k (recordOf m' j)) → w .base + j < w .limit → (R : Registers M) (e : Ending M) → Params M args arity R → fair →
-        After (λ v. After (λ b. (R' : Registers M) → Keeps M args arity m Dest.Any R R' → Run M arity w (cond b (w .base + suc j) (w .base + (j + k))) R' e)
+        After (λ v. After (λ b. (R' : Registers M) → Keeps M args arity m Dest.Any R R' → Onto M arity w (w .base + j) (cond (Bool·beq b sense) goal (w .base + suc j)) R' e)
         (λ x. e ≡ failed x) (given (M .test v))) (λ x. e ≡ failed x) ans →
         Run M arity w (w .base + count m) R e
 
@@ -57,18 +62,14 @@ by-bool : (b : Bool) (Q P : Bool → Type 0) → (Q true → P true) → (Q fals
 by-bool true Q P f g h = f h
 by-bool false Q P f g h = g h
 
-flip-cond : (P : ℕ → Type 0) (b : Bool) (y n : ℕ) → P (cond b n y) → P (cond (Bool·beq b false) y n)
-flip-cond P true y n h = h
-flip-cond P false y n h = h
-
-module _ (M : Operators) (t : Tree) (args : ℕ → M .Value) (arity : ℕ) where
+module _ (M : Operators) (t : Tree) (args : ℕ → M .Value) (arity : ℕ) (sense : Bool) where
   -- a register tested
   pub tested-good : (E : ℕ → Dest → Walk Operand) {m : Made} {s : ℕ} {fair C : Type 0} {ans : Worth (M .Failure) (M .Value)} (own : Dest → Walk Operand) → Owns arity m →
-      Holds (Lowers M t args arity m Dest.Any s fair ans) (own Dest.Any m) → Holds (Jumped M args arity m s (fair × C) ans) (tested t E false own m)
-  unfolding tested lowerMaterializing jumpIf
+      Holds (Lowers M t args arity m Dest.Any s fair ans) (own Dest.Any m) → Holds (Jumped M args arity sense m s (fair × C) ans) (tested t E sense own m)
+  unfolding tested lowerMaterializing
   tested-good E {m} {s} {fair} {C} {ans} own o h =
       chain (chain h (λ u m1 x. materialized-good M args arity {m = m} {dest = Dest.Any} o tt x)) (λ r m2 q.
-      weaken (emit-holds (Instruction.JumpIfFalse (regOf r) 0) m2) (λ j m3 g.
+      weaken (emit-holds (jumpIf sense (regOf r)) m2) (λ j m3 g.
       let l1 = q .grown .kept .more in
       let l2 = q .short in
       let l3 = g .level in
@@ -79,16 +80,17 @@ module _ (M : Operators) (t : Tree) (args : ℕ → M .Value) (arity : ℕ) wher
         level = omega arith;
         short = omega arith;
         known = q .known;
-        sim = λ laws w k k0 kb f fj inside R e pr fa kk.
+        jump = subst (λ x. JumpKind (getD x 0 0)) (sym (g .there j jj)) (kind-jump-if (regOf r) sense);
+        sim = λ laws w k goal to f fj inside R e pr fa kk.
             let f2 : Final w (count m) (count m2) m2 = earlier (le-refl _) (omega arith) (le-refl _) (g .grown .kept) f in
             q .sim laws w f2 R e pr (fa .0) (after-map kk
             (λ v kv R1 d1 p1. moved M arity w (omega arith)
-            (run-branch M arity w (M .test v) (λ b. Bool·beq b false) k (w .base + j) (w .base + (j + k)) (w .base + suc j) R1
-            (step-words M arity w (aim k (wordsOf (Instruction.JumpIfFalse (regOf r) 0))) (w .base + j) R1 (fj ∙ ap (λ x. decode (aim k x)) (g .there j jj))
-            ∙ false-tests M (w .consts) (w .code) (regOf r) k (w .base + j) R1
-            ∙ ap (λ x. onward M (w .consts) (M .test x) (λ b. branch M (w .consts) (Bool·beq b false) k (w .base + j) R1)) d1)
-            inside k0 kb (omega arith) (omega arith)
-            (after-map kv (λ b kb. flip-cond (λ n. Run M arity w n R1 e) b (w .base + (j + k)) (w .base + suc j) (kb R1 p1))))));
+            (run-goes M arity w (M .test v) (λ b. Bool·beq b sense) k (w .base + j) goal (w .base + suc j) R1
+            (step-words M arity w (aim k (wordsOf (jumpIf sense (regOf r)))) (w .base + j) R1 (fj ∙ ap (λ x. decode (aim k x)) (g .there j jj))
+            ∙ sense-tests M (w .consts) (w .code) sense (regOf r) k (w .base + j) R1
+            ∙ ap (λ x. onward M (w .consts) (M .test x) (λ b. branch M (w .consts) (Bool·beq b sense) k (w .base + j) R1)) d1)
+            inside to (omega arith)
+            (after-map kv (λ b kb. kb R1 p1)))));
       }))
 
   -- a fused jump, its operands ready and its constant pooled
@@ -97,10 +99,11 @@ module _ (M : Operators) (t : Tree) (args : ℕ → M .Value) (arity : ℕ) wher
       {m m2 m3 m4 : Made} {x y : Source} {s j : ℕ} {fair : Type 0} {r q : Worth (M .Failure) (M .Value)} →
       Couple M args arity m s fair r q x y m2 → Grown (count m2) m2 m3 → count m3 ≡ count m2 → Emitted i m3 j m4 →
       ((laws : Hypotheses M) (w : World M) (k p : ℕ) (R : Registers M) (a b : M .Value) → Pools M args arity w m3 → Den M args arity x w R a → Den M args arity y w R b →
-      OrderOf M c a b →
-      Branches M (w .consts) (w .code) i k p R (opposite (asked M c a b))) →
-      Jumped M args arity m (1 + (s + 0)) (fair × IfAny (λ a. IfAny (λ b. OrderAt M t args op a b) q) r) (andThen r (λ a. andThen q (λ b. given (operate M op a b)))) j m4
-  fused-jumped op c i asks orders {m} {m2} {m3} {m4} {x} {y} {s} {j} {fair} {r} {q} cp g3 l3 g acts =
+      AtRoot sense (OrderOf M c a b) →
+      Branches M (w .consts) (w .code) i k p R (sensed sense (asked M c a b))) →
+      JumpKind (getD (wordsOf i) 0 0) →
+      Jumped M args arity sense m (1 + (s + 0)) (fair × AtRoot sense (IfAny (λ a. IfAny (λ b. OrderAt M t args op a b) q) r)) (andThen r (λ a. andThen q (λ b. given (operate M op a b)))) j m4
+  fused-jumped op c i asks orders {m} {m2} {m3} {m4} {x} {y} {s} {j} {fair} {r} {q} cp g3 l3 g acts kind =
       let l1 = cp .grown .kept .more in
       let l2 = cp .short in
       let l4 = g .level in
@@ -111,17 +114,18 @@ module _ (M : Operators) (t : Tree) (args : ℕ → M .Value) (arity : ℕ) wher
         level = omega arith;
         short = omega arith;
         known = known-bind r _ (cp .known-left) (λ u. known-bind q _ (cp .known-right) (λ v. known-given (operate M op u v)));
-        sim = λ laws w k k0 kb f fj inside R e pr fa kk.
+        jump = subst (λ x. JumpKind (getD x 0 0)) (sym (g .there j jj)) kind;
+        sim = λ laws w k goal to f fj inside R e pr fa kk.
             let f3 : Final w (count m) (count m3) m3 = earlier (le-refl _) (omega arith) (le-refl _) (g .grown .kept) f in
             let f2 : Final w (count m) (count m2) m2 = earlier (le-refl _) (omega arith) (le-refl _) (g3 .kept) f3 in
             cp .sim laws w f2 R e pr (fa .0)
-            (after-ask (after-pair r q (λ u v. given (operate M op u v)) kk) (ask-pair r q (fa .1))
+            (after-ask (after-pair r q (λ u v. given (operate M op u v)) kk) (premise-pair (λ a b. OrderAt M t args op a b) sense r q (fa .1))
             (λ v kv ov R1 d1 p1. moved M arity w (omega arith)
-            (run-branch M arity w (opposite (asked M c (v .0) (v .1))) (λ b. b) k (w .base + j) (w .base + (j + k)) (w .base + suc j) R1
+            (run-goes M arity w (sensed sense (asked M c (v .0) (v .1))) (λ b. b) k (w .base + j) goal (w .base + suc j) R1
             (step-words M arity w (aim k (wordsOf i)) (w .base + j) R1 (fj ∙ ap (λ z. decode (aim k z)) (g .there j jj))
-            ∙ acts laws w k (w .base + j) R1 (v .0) (v .1) (f3 .pools) (d1 .0) (d1 .1) (orders (v .0) (v .1) ov))
-            inside k0 kb (omega arith) (omega arith)
-            (after-opposite (λ n. Run M arity w n R1 e) (w .base + suc j) (w .base + (j + k)) (asked M c (v .0) (v .1))
+            ∙ acts laws w k (w .base + j) R1 (v .0) (v .1) (f3 .pools) (d1 .0) (d1 .1) (premise-map sense (orders (v .0) (v .1)) ov))
+            inside to (omega arith)
+            (after-sensed sense (λ n. Onto M arity w (w .base + j) n R1 e) goal (w .base + suc j) (asked M c (v .0) (v .1))
             (after-map (after-truth M (asked M c (v .0) (v .1)) (rw (asks (v .0) (v .1)) at kv))
             (λ b kb. after-given (laws .boolean-tests b) kb R1 p1))))));
       }
@@ -131,7 +135,7 @@ module _ (M : Operators) (t : Tree) (args : ℕ → M .Value) (arity : ℕ) wher
     -- what a binary condition promises
     abbrev TwoJumped : BinaryOp → ℕ → ℕ → Made → ℕ → Made → Type 0
     TwoJumped op l r m =
-        Jumped M args arity m (1 + (S l + (S r + 0))) ((A l × IfAny (λ a. A r) (W l)) × IfAny (λ a. IfAny (λ b. OrderAt M t args op a b) (W r)) (W l))
+        Jumped M args arity sense m (1 + (S l + (S r + 0))) ((A l × IfAny (λ a. A r) (W l)) × AtRoot sense (IfAny (λ a. IfAny (λ b. OrderAt M t args op a b) (W r)) (W l)))
         (andThen (W l) (λ a. andThen (W r) (λ b. given (operate M op a b))))
 
     -- what its own lowering promises
@@ -139,45 +143,48 @@ module _ (M : Operators) (t : Tree) (args : ℕ → M .Value) (arity : ℕ) wher
     TwoLowered op l r m =
         Lowers M t args arity m Dest.Any (1 + (S l + (S r + 0))) (A l × IfAny (λ a. A r) (W l)) (andThen (W l) (λ a. andThen (W r) (λ b. given (operate M op a b))))
 
-    resized-jump : {m m' : Made} {s z j : ℕ} {fair : Type 0} {ans : Worth (M .Failure) (M .Value)} → s ≤ z → Jumped M args arity m s fair ans j m' → Jumped M args arity m z fair ans j m'
+    resized-jump : {m m' : Made} {s z j : ℕ} {fair : Type 0} {ans : Worth (M .Failure) (M .Value)} → s ≤ z → Jumped M args arity sense m s fair ans j m' → Jumped M args arity sense m z fair ans j m'
     resized-jump l q =
         let s = q .short in
-        record { grown = q .grown; start = q .start; level = q .level; short = omega arith; known = q .known; sim = q .sim }
+        record { grown = q .grown; start = q .start; level = q .level; short = omega arith; known = q .known; jump = q .jump; sim = q .sim }
 
     fused-sources : (op : BinaryOp) (c : Comparison) → ((a b : M .Value) → operate M op a b ≡ truth M (asked M c a b)) →
         ((a b : M .Value) → OrderAt M t args op a b → OrderOf M c a b) → (l r : ℕ) (x y : Source) {m m1 m2 : Made} (own : Dest → Walk Operand) → Owns arity m →
         Holds (TwoLowered op l r m) (own Dest.Any m) →
         Expr M args arity m Dest.Any (S l) (A l) (W l) x m1 → Expr M args arity m1 Dest.Any (S r) (A r) (W r) y m2 →
-        Holds (TwoJumped op l r m) (fusedSources t E false own c x y m2)
+        Holds (TwoJumped op l r m) (fusedSources t E sense own c x y m2)
     unfolding fusedSources
     fused-sources op c asks orders l r (Source.register u) (Source.register v) {m} {m1} {m2} own o h ex ey =
-        weaken (emit-holds (jumpRR false c (regOf u) (regOf v)) m2) (λ j m4 g.
-        resized-jump (omega arith) (fused-jumped op c (jumpRR false c (regOf u) (regOf v)) asks orders
+        weaken (emit-holds (jumpRR sense c (regOf u) (regOf v)) m2) (λ j m4 g.
+        resized-jump (omega arith) (fused-jumped op c (jumpRR sense c (regOf u) (regOf v)) asks orders
         (couple M args arity o (ready M args arity ex) (ready M args arity ey)) (grown-refl _ m2) refl g
         (λ laws w k p R a b pools da db ord.
-        subst₂ (λ a b. OrderOf M c a b → Branches M (w .consts) (w .code) (jumpRR false c (regOf u) (regOf v)) k p R (opposite (asked M c a b))) da db
-        (jump-RR M laws (w .consts) (w .code) c k p (regOf u) (regOf v) R) ord)))
+        subst₂ (λ a b. AtRoot sense (OrderOf M c a b) → Branches M (w .consts) (w .code) (jumpRR sense c (regOf u) (regOf v)) k p R (sensed sense (asked M c a b))) da db
+        (sense-RR M laws (w .consts) (w .code) sense c k p (regOf u) (regOf v) R) ord)
+        (kind-jump-RR (regOf u) (regOf v) sense c)))
     fused-sources op c asks orders l r (Source.register u) (Source.constant b) {m} {m1} {m2} own o h ex ey =
         let cp = couple M args arity o (ready M args arity ex) (ready M args arity ey) in
         chain (pool-holds b m2) (λ n m3 pb.
-        weaken (emit-holds (jumpRK false c (regOf u) n) m3) (λ j m4 g.
-        resized-jump (omega arith) (fused-jumped op c (jumpRK false c (regOf u) n) asks orders cp (pb .grown) (pb .level) g
+        weaken (emit-holds (jumpRK sense c (regOf u) n) m3) (λ j m4 g.
+        resized-jump (omega arith) (fused-jumped op c (jumpRK sense c (regOf u) n) asks orders cp (pb .grown) (pb .level) g
         (λ laws w k p R a a' pools da db ord.
-        subst₂ (λ a b. OrderOf M c a b → Branches M (w .consts) (w .code) (jumpRK false c (regOf u) n) k p R (opposite (asked M c a b))) da db
-        (jump-RK M laws (w .consts) (w .code) c k p (regOf u) n R (pools n (constantWords b) (pb .has) ∙ constant-words M b (cp .usable-right))) ord))))
+        subst₂ (λ a b. AtRoot sense (OrderOf M c a b) → Branches M (w .consts) (w .code) (jumpRK sense c (regOf u) n) k p R (sensed sense (asked M c a b))) da db
+        (sense-RK M laws (w .consts) (w .code) sense c k p (regOf u) n R (pools n (constantWords b) (pb .has) ∙ constant-words M b (cp .usable-right))) ord)
+        (kind-jump-RK (regOf u) n sense c))))
     fused-sources op c asks orders l r (Source.constant b) (Source.register v) {m} {m1} {m2} own o h ex ey =
         let cp = couple M args arity o (ready M args arity ex) (ready M args arity ey) in
         chain (pool-holds b m2) (λ n m3 pb.
-        weaken (emit-holds (jumpKR false c n (regOf v)) m3) (λ j m4 g.
-        resized-jump (omega arith) (fused-jumped op c (jumpKR false c n (regOf v)) asks orders cp (pb .grown) (pb .level) g
+        weaken (emit-holds (jumpKR sense c n (regOf v)) m3) (λ j m4 g.
+        resized-jump (omega arith) (fused-jumped op c (jumpKR sense c n (regOf v)) asks orders cp (pb .grown) (pb .level) g
         (λ laws w k p R a a' pools da db ord.
-        subst₂ (λ a b. OrderOf M c a b → Branches M (w .consts) (w .code) (jumpKR false c n (regOf v)) k p R (opposite (asked M c a b))) da db
-        (jump-KR M laws (w .consts) (w .code) c k p n (regOf v) R (pools n (constantWords b) (pb .has) ∙ constant-words M b (cp .usable-left))) ord))))
+        subst₂ (λ a b. AtRoot sense (OrderOf M c a b) → Branches M (w .consts) (w .code) (jumpKR sense c n (regOf v)) k p R (sensed sense (asked M c a b))) da db
+        (sense-KR M laws (w .consts) (w .code) sense c k p n (regOf v) R (pools n (constantWords b) (pb .has) ∙ constant-words M b (cp .usable-left))) ord)
+        (kind-jump-KR n (regOf v) sense c))))
     fused-sources op c asks orders l r (Source.constant b) (Source.constant b') {m} own o h (literal e p1 q1) (literal e' p2 q2) = tested-good E own o h
 
     fused-good : (op : BinaryOp) (c : Comparison) → ((a b : M .Value) → operate M op a b ≡ truth M (asked M c a b)) →
         ((a b : M .Value) → OrderAt M t args op a b → OrderOf M c a b) → (l r : ℕ) → P l → P r → (m : Made) (own : Dest → Walk Operand) → Owns arity m →
-        Holds (TwoLowered op l r m) (own Dest.Any m) → Holds (TwoJumped op l r m) (fused t E false own (some c) l r m)
+        Holds (TwoLowered op l r m) (own Dest.Any m) → Holds (TwoJumped op l r m) (fused t E sense own (some c) l r m)
     unfolding fused
     fused-good op c asks orders l r pl pr m own o h =
         chain (good l pl Dest.Any m o tt) (λ u m1 x.
@@ -185,7 +192,7 @@ module _ (M : Operators) (t : Tree) (args : ℕ → M .Value) (arity : ℕ) wher
         fused-sources op c asks orders l r (source u) (source v) own o h x y))
 
     pub binary-jumped : (op : BinaryOp) (l r : ℕ) → P l → P r → (m : Made) (own : Dest → Walk Operand) → Owns arity m →
-        Holds (TwoLowered op l r m) (own Dest.Any m) → Holds (TwoJumped op l r m) (fused t E false own (comparison op) l r m)
+        Holds (TwoLowered op l r m) (own Dest.Any m) → Holds (TwoJumped op l r m) (fused t E sense own (comparison op) l r m)
     unfolding comparison fused operate OrderAt
     binary-jumped BinaryOp.Add l r pl pr m own o h = tested-good E own o h
     binary-jumped BinaryOp.Subtract l r pl pr m own o h = tested-good E own o h
@@ -199,8 +206,11 @@ module _ (M : Operators) (t : Tree) (args : ℕ → M .Value) (arity : ℕ) wher
     binary-jumped BinaryOp.Less l r pl pr m own o h = fused-good BinaryOp.Less Comparison.Less (λ a b. refl) (λ a b x. x) l r pl pr m own o h
     binary-jumped BinaryOp.LessEqual l r pl pr m own o h = fused-good BinaryOp.LessEqual Comparison.LessEqual (λ a b. refl) (λ a b x. x) l r pl pr m own o h
 
-    -- ---- the if
+-- ---- the if
 
+module _ (M : Operators) (t : Tree) (args : ℕ → M .Value) (arity : ℕ) where
+  module _ (E : ℕ → Dest → Walk Operand) (W : ℕ → Worth (M .Failure) (M .Value)) (S : ℕ → ℕ) (A : ℕ → Type 0) (P : ℕ → Type 0)
+      (good : (i : ℕ) → P i → (dest : Dest) (m : Made) → Owns arity m → Target arity m dest → Holds (Lowers M t args arity m dest (S i) (A i) (W i)) (E i dest m)) where
     else-good : (el : ℕ) (b : Bool) → (Named el (cond b [] (el ∷ [])) → P el) → (i : ℕ) (d : Register) (m : Made) → Owns arity m → Target arity m (Dest.To d) →
         Holds (Lowered M args arity m (Dest.To d) (total S (cond b [] (el ∷ []))) (Chosen M t args b (Unit {0}) (A el)) (cond b undefined (W el)))
         (cond b (refuse t Refusal.Else i) (lowerMaterializing (E el) (Dest.To d)) m)
@@ -215,7 +225,7 @@ module _ (M : Operators) (t : Tree) (args : ℕ → M .Value) (arity : ℕ) wher
     -- the code of an if, made step by step
     if-lowered : {sc st se : ℕ} {Ac Cc At Ae : Type 0} {wc wt we : Worth (M .Failure) (M .Value)} {dest : Dest} {m m1 m2 m3 m4 m5 m6 m7 : Made} {d r1 r2 : Register} {j k : ℕ} →
         Owns arity m → Room m4 → Room m6 →
-        Jumped M args arity m sc (Ac × Cc) wc j m1 →
+        Jumped M args arity false m sc (Ac × Cc) wc j m1 →
         Aimed arity m1 dest d m2 →
         Lowered M args arity m2 (Dest.To d) st At wt r1 m3 →
         Emitted (Instruction.Jump 0) m3 k m4 →
@@ -264,34 +274,34 @@ module _ (M : Operators) (t : Tree) (args : ℕ → M .Value) (arity : ℕ) wher
               ∙ ap decode (h7 .there ∙ ap (aim (count m6 - k)) (qe .grown .kept .same k (omega arith) ∙ h5 .others k (λ z. omega arith) ∙ g .there k kk)) in
               let inside-j : w .base + j < w .limit = omega (arith, f .top) in
               let inside-k : w .base + k < w .limit = omega (arith, f .top) in
-              jm .sim laws w (count m4 - j) (omega arith) (omega arith) f1 fj inside-j R e' pr (fa .0, fa .1)
+              jm .sim laws w (count m4 - j) (w .base + j + (count m4 - j)) (target-forward M arity w (w .base + j) (count m4 - j) (omega arith)) f1 fj inside-j R e' pr (fa .0, fa .1)
               (after-ask (after-bind wc _ k0) (ask-bind wc _ (fa .2))
               (λ v kv fv. after-ask (after-bind (given (M .test v)) _ kv) fv
               (λ b kb fb R1 p1.
               let pr1 : Params M args arity R1 = params-kept M args arity m Dest.Any o tt p1 pr in
               by-bool b
               (λ b. Onward M args arity w e' (w .base + count m7) m dest R (λ w R v. R (regOf d) ≡ v) (cond b wt we) × Chosen M t args b At Ae)
-              (λ b. Run M arity w (cond b (w .base + suc j) (w .base + (j + (count m4 - j)))) R1 e')
-              (λ z. moved M arity w (omega arith) (qt .sim laws w f3 R1 e' pr1 (z .1)
+              (λ b. Onto M arity w (w .base + j) (cond (Bool·beq b false) (w .base + j + (count m4 - j)) (w .base + suc j)) R1 e')
+              (λ z. up (omega arith) (moved M arity w (omega arith) (qt .sim laws w f3 R1 e' pr1 (z .1)
               (after-map (z .0)
               (λ u ku R2 d2 p2. moved M arity w (omega arith)
               (run-jump M arity w (w .base + k) (w .base + count m7) (count m6 - k) R2
               (step-words M arity w (aim (count m6 - k) (wordsOf (Instruction.Jump 0))) (w .base + k) R2 fk)
               inside-k (omega arith) (omega arith) (omega arith)
               (ku R2 (ap (λ x. R2 (regOf x)) (sym (qt .spot)) ∙ d2)
-              (λ q x n. p2 q (a .grown .held q (jm .grown .held q x)) (a .fresh q (jm .grown .held q x) n) ∙ p1 q x tt)))))))
-              (λ z. moved M arity w (omega arith) (qe .sim laws w f6 R1 e' pr1 (z .1)
+              (λ q x n. p2 q (a .grown .held q (jm .grown .held q x)) (a .fresh q (jm .grown .held q x) n) ∙ p1 q x tt))))))))
+              (λ z. up (omega arith) (moved M arity w (omega arith) (qe .sim laws w f6 R1 e' pr1 (z .1)
               (after-map (z .0)
               (λ u ku R2 d2 p2. moved M arity w (omega arith) (ku R2 (ap (λ x. R2 (regOf x)) (sym (qe .spot)) ∙ d2)
-              (λ q x n. p2 q (g25 .held q (a .grown .held q (jm .grown .held q x))) (a .fresh q (jm .grown .held q x) n) ∙ p1 q x tt))))))
+              (λ q x n. p2 q (g25 .held q (a .grown .held q (jm .grown .held q x))) (a .fresh q (jm .grown .held q x) n) ∙ p1 q x tt)))))))
               (kb, fb))));
         }
 
-    pub good-if : (J : ℕ → Walk ℕ) (C : ℕ → Type 0) → ((i : ℕ) → P i → (m : Made) → Owns arity m → Holds (Jumped M args arity m (S i) (A i × C i) (W i)) (J i m)) →
+    pub good-if : (J : ℕ → Walk ℕ) (C : ℕ → Type 0) → ((i : ℕ) → P i → (m : Made) → Owns arity m → Holds (Jumped M args arity false m (S i) (A i × C i) (W i)) (J i m)) →
         (c th el : ℕ) → P c → P th → (Named el (present el) → P el) → (i : ℕ) (dest : Dest) (m : Made) → Owns arity m → Target arity m dest →
         Holds (Lowers M t args arity m dest (2 + (S c + (S th + total S (present el)))) (A c × C c × IfAny (λ b. Chosen M t args b (A th) (Chosen M t args (eqb el absent) (Unit {0}) (A el))) (tests M (W c)))
         (andThen (W c) (λ a. andThen (given (M .test a)) (λ b. cond b (W th) (cond (eqb el absent) undefined (W el))))))
-        (lowerNode t E J i (Node.If c th el) dest m)
+        (lowerNode freeTemp t E J i (Node.If c th el) dest m)
     unfolding lowerNode lowerElse present
     good-if J C goodJ c th el pc pt pe i dest m o tg =
         chain (goodJ c pc m o) (λ j m1 jm.

@@ -6,6 +6,7 @@ use native.Mathlib.Nat.{le-refl, zero-add, suc-add}
 use native.Mathlib.Decide.{decLe}
 use mathlib.Core.Path.{_≡_, refl, sym, ap, _∙_, subst}
 use mathlib.Core.Logic.{_≢_}
+use mathlib.Core.Bool.{true, false, false≢true}
 use mathlib.Core.List.{List}
 use mathlib.Core.Option.{Option, none, some}
 use lib.ListN.{length, length-take, length-drop}
@@ -21,35 +22,35 @@ use Rattle.lowering.specs.Meaning.{val, fail, Operators, Worth, worth, f
 use Rattle.lowering.specs.Machine.{recordIn, fetch, constantAt, constantOf, Ending, returned, failed, lost, Registers, Now, ended, step, after}
 use Rattle.lowering.specs.Law.{Accepted, arity, instructions, Setting, ran, treeWorth, EndsWith, Runs, Exactly, Once, Parameters, Length, Defined}
 use Rattle.lowering.proofs.Steps.{Holds, holds-ends, count}
-use Rattle.lowering.proofs.Runs.{After, worked, broke, Known, World, Run, last, next}
+use Rattle.lowering.proofs.Runs.{After, worked, broke, Known, World, Run, leave, last, next}
 use Rattle.lowering.proofs.Post.{Final, Owns}
 use Rattle.lowering.proofs.Walks.{Rooted, root-good}
 
 -- ---- after
 
 module _ (M : Operators) (consts : ℕ → Option (M .Value)) (code : ℕ → Option Instruction) where
-  after-add : (a b : ℕ) (s : Now M) → after M consts code (a + b) s ≡ after M consts code a (after M consts code b s)
+  pub after-add : (a b : ℕ) (s : Now M) → after M consts code (a + b) s ≡ after M consts code a (after M consts code b s)
   unfolding after
   after-add zero b s = rw zero-add
   after-add (suc a) b s = rw suc-add (ap (step M consts code) (after-add a b s))
 
-  after-first : (n : ℕ) (s : Now M) → after M consts code (suc n) s ≡ after M consts code n (step M consts code s)
+  pub after-first : (n : ℕ) (s : Now M) → after M consts code (suc n) s ≡ after M consts code n (step M consts code s)
   unfolding after
   after-first zero s = refl
   after-first (suc n) s = ap (step M consts code) (after-first n s)
 
-  after-ended : (n : ℕ) (e : Ending M) → after M consts code n (ended e) ≡ ended e
+  pub after-ended : (n : ℕ) (e : Ending M) → after M consts code n (ended e) ≡ ended e
   unfolding after step
   after-ended zero e = refl
   after-ended (suc n) e = ap (step M consts code) (after-ended n e)
 
-  after-later : (n k : ℕ) (s : Now M) {e : Ending M} → n ≤ k → after M consts code n s ≡ ended e → after M consts code k s ≡ ended e
+  pub after-later : (n k : ℕ) (s : Now M) {e : Ending M} → n ≤ k → after M consts code n s ≡ ended e → after M consts code k s ≡ ended e
   after-later n k s {e} l h =
       let q : k ≡ (k - n) + n = omega arith in
       ap (λ x. after M consts code x s) q ∙ after-add (k - n) n s ∙ ap (after M consts code (k - n)) h ∙ after-ended (k - n) e
 
   -- a run has one ending
-  one-ending : (n k : ℕ) (s : Now M) {e e' : Ending M} → after M consts code n s ≡ ended e → after M consts code k s ≡ ended e' → _≡_ {A = Now M} (ended e) (ended e')
+  pub one-ending : (n k : ℕ) (s : Now M) {e e' : Ending M} → after M consts code n s ≡ ended e → after M consts code k s ≡ ended e' → _≡_ {A = Now M} (ended e) (ended e')
   one-ending n k s {e} {e'} h h' = go (decLe n k)
     where
       go : Dec (n ≤ k) → _≡_ {A = Now M} (ended e) (ended e')
@@ -62,12 +63,17 @@ module _ (M : Operators) (arity : ℕ) (w : World M) where
   abbrev went : ℕ → Now M → Now M
   went n s = after M (w .consts) (w .code) n s
 
+  -- it is left nowhere
+  abbrev Unstopped : Type 0
+  Unstopped = (p q : ℕ) → w .stop p q ≡ true → ⊥
+
   -- it ends, in as many steps as there are places left, or fewer
-  run-ends : {p : ℕ} {R : Registers M} {e : Ending M} → Run M arity w p R e → (n : ℕ) × (p + n ≤ w .limit) × (went n (Now.at p R) ≡ ended e)
+  run-ends : Unstopped → {p : ℕ} {R : Registers M} {e : Ending M} → Run M arity w p R e → (n : ℕ) × (p + n ≤ w .limit) × (went n (Now.at p R) ≡ ended e)
   unfolding after
-  run-ends (last l s) = (1, omega arith, s)
-  run-ends (next {p = p} {q = q} {R = R} {Q = Q} l s up k r) =
-      let ih = run-ends r in
+  run-ends u (leave l s x k) = absurd (u _ _ x)
+  run-ends u (last l s) = (1, omega arith, s)
+  run-ends u (next {p = p} {q = q} {R = R} {Q = Q} l s h k r) =
+      let ih = run-ends u r in
       (suc (ih .0), omega (arith, ih .1), after-first M (w .consts) (w .code) (ih .0) (Now.at p R) ∙ ap (went (ih .0)) s ∙ ih .2)
 
   -- a place that it comes to after k steps is k further or more; the run goes on from there, and the parameters are as they were
@@ -76,30 +82,31 @@ module _ (M : Operators) (arity : ℕ) (w : World M) where
     run : Run M arity w q Q e
     kept : (r : ℕ) → r < arity → Q r ≡ R r
 
-  at-place : {p q : ℕ} {R Q : Registers M} → _≡_ {A = Now M} (Now.at p R) (Now.at q Q) → p ≡ q
+  pub at-place : {p q : ℕ} {R Q : Registers M} → _≡_ {A = Now M} (Now.at p R) (Now.at q Q) → p ≡ q
   at-place e = cc
 
-  at-registers : {p q : ℕ} {R Q : Registers M} → _≡_ {A = Now M} (Now.at p R) (Now.at q Q) → R ≡ Q
+  pub at-registers : {p q : ℕ} {R Q : Registers M} → _≡_ {A = Now M} (Now.at p R) (Now.at q Q) → R ≡ Q
   at-registers e = cc
 
-  not-both : {q : ℕ} {Q : Registers M} {e : Ending M} → _≡_ {A = Now M} (ended e) (Now.at q Q) → ⊥
+  pub not-both : {q : ℕ} {Q : Registers M} {e : Ending M} → _≡_ {A = Now M} (ended e) (Now.at q Q) → ⊥
   not-both e = let z : _≡_ {A = ℕ} 0 1 = cc in omega arith
 
-  along : (k : ℕ) {p q : ℕ} {R Q : Registers M} {e : Ending M} → Run M arity w p R e → went k (Now.at p R) ≡ Now.at q Q → Along p R e k q Q
+  along : Unstopped → (k : ℕ) {p q : ℕ} {R Q : Registers M} {e : Ending M} → Run M arity w p R e → went k (Now.at p R) ≡ Now.at q Q → Along p R e k q Q
   unfolding after
-  along zero {p} {q} {R} {Q} {e} r h =
+  along u zero {p} {q} {R} {Q} {e} r h =
       let same : p ≡ q = at-place h in
       let regs : R ≡ Q = at-registers h in
       record { on = omega arith; run = subst (λ x. Run M arity w q x e) regs (subst (λ x. Run M arity w x R e) same r); kept = λ i l. ap (λ f. f i) (sym regs) }
-  along (suc k) {p} {q} {R} {Q} {e} (last l s) h =
+  along u (suc k) (leave l s x kp) h = absurd (u _ _ x)
+  along u (suc k) {p} {q} {R} {Q} {e} (last l s) h =
       absurd (not-both (sym (after-ended M (w .consts) (w .code) k e) ∙ ap (went k) (sym s) ∙ sym (after-first M (w .consts) (w .code) k (Now.at p R)) ∙ h))
-  along (suc k) {p} {q} {R} {Q} {e} (next {q = q1} {Q = Q1} l s up kp r) h =
-      let ih : Along q1 Q1 e k q Q = along k r (ap (went k) (sym s) ∙ sym (after-first M (w .consts) (w .code) k (Now.at p R)) ∙ h) in
+  along u (suc k) {p} {q} {R} {Q} {e} (next {q = q1} {Q = Q1} l s z kp r) h =
+      let ih : Along q1 Q1 e k q Q = along u k r (ap (went k) (sym s) ∙ sym (after-first M (w .consts) (w .code) k (Now.at p R)) ∙ h) in
       record { on = omega (arith, ih .on); run = ih .run; kept = λ i z. ih .kept i z ∙ kp i z }
 
 -- ---- an accepted tree in its setting
 
-begin-owns : (code constants marks : List ℕ) (pooled arity : ℕ) → arity ≤ 256 → Owns arity (begin code constants marks pooled arity)
+pub begin-owns : (code constants marks : List ℕ) (pooled arity : ℕ) → arity ≤ 256 → Owns arity (begin code constants marks pooled arity)
 unfolding begin
 begin-owns code constants marks pooled arity h = record {
   params = λ r l. parameters-held arity h r ∙ lt-ltb r arity l;
@@ -107,11 +114,11 @@ begin-owns code constants marks pooled arity h = record {
   room = record { inside = omega arith; small = omega arith };
 }
 
-begin-marks : (code constants marks : List ℕ) (pooled arity : ℕ) → begin code constants marks pooled arity .state .marks ≡ 0
+pub begin-marks : (code constants marks : List ℕ) (pooled arity : ℕ) → begin code constants marks pooled arity .state .marks ≡ 0
 unfolding begin
 begin-marks code constants marks pooled arity = refl
 
-begin-count : (code constants marks : List ℕ) (pooled arity : ℕ) → count (begin code constants marks pooled arity) ≡ 0
+pub begin-count : (code constants marks : List ℕ) (pooled arity : ℕ) → count (begin code constants marks pooled arity) ≡ 0
 unfolding begin
 begin-count code constants marks pooled arity = refl
 
@@ -143,7 +150,7 @@ short a =
     let z : count (beginning a) ≡ 0 = begin-count (a .code) (a .constants) (a .marks) (a .pooled) (arity a) in
     omega (arith, q .short)
 
-known-defined : {F A : Type 0} (r : Worth F A) → Known r → r ≢ undefined
+pub known-defined : {F A : Type 0} (r : Worth F A) → Known r → r ≢ undefined
 known-defined (worth a) k e = let z : _≡_ {A = ℕ} 0 1 = cc in omega arith
 known-defined (fails x) k e = let z : _≡_ {A = ℕ} 0 1 = cc in omega arith
 known-defined undefined k e = k
@@ -158,11 +165,11 @@ record-in : (w : ℕ) (ws : List ℕ) (count p : ℕ) → p < count → p < capa
 unfolding recordIn
 record-in w ws count p h l = rw (lt-ltb p count h, lt-ltb p (capacity w ws) l)
 
-fetch-record : (ws : List ℕ) (count p : ℕ) → p < count → p < capacity instructionWidth ws → fetch ws count p ≡ decode (recordAt instructionWidth ws p)
+pub fetch-record : (ws : List ℕ) (count p : ℕ) → p < count → p < capacity instructionWidth ws → fetch ws count p ≡ decode (recordAt instructionWidth ws p)
 unfolding fetch
 fetch-record ws count p h l = ap (λ (o : Option (List ℕ)). elim o [ some r ↦ decode r | none ↦ none ]) (record-in instructionWidth ws count p h l)
 
-constant-record : (M : Operators) (ws : List ℕ) (count p : ℕ) → p < count → p < capacity constantWidth ws → constantAt M ws count p ≡ constantOf M (recordAt constantWidth ws p)
+pub constant-record : (M : Operators) (ws : List ℕ) (count p : ℕ) → p < count → p < capacity constantWidth ws → constantAt M ws count p ≡ constantOf M (recordAt constantWidth ws p)
 unfolding constantAt
 constant-record M ws count p h l = ap (λ (o : Option (List ℕ)). elim o [ some r ↦ constantOf M r | none ↦ none ]) (record-in constantWidth ws count p h l)
 
@@ -172,7 +179,7 @@ module _ (ws : List ℕ) (p : ℕ) where
   unfolding recordAt capacity
   instruction-inside e = let z : min instructionWidth (length ws - instructionWidth * p) ≡ instructionWidth = (rw (length-take, length-drop) at e) in omega arith
 
-  constant-inside : length (recordAt constantWidth ws p) ≡ constantWidth → p < capacity constantWidth ws
+  pub constant-inside : length (recordAt constantWidth ws p) ≡ constantWidth → p < capacity constantWidth ws
   unfolding recordAt capacity
   constant-inside e = let z : min constantWidth (length ws - constantWidth * p) ≡ constantWidth = (rw (length-take, length-drop) at e) in omega arith
 
@@ -188,6 +195,7 @@ module _ (a : Accepted) (s : Setting a) where
     code = fetch (s .code) (s .count);
     base = s .base;
     limit = s .base + instructions a;
+    stop = λ p q. false;
   }
 
   final : Final world (count (beginning a)) (instructions a) (a .left)
@@ -204,6 +212,10 @@ module _ (a : Accepted) (s : Setting a) where
         constant-record (s .operators) (s .pool) (s .pooled) k (rw e at (p .0)) (constant-inside (s .pool) k (ap length there ∙ h .whole)) ∙ ap (constantOf (s .operators)) there;
     top = le-refl _;
   }
+
+  unstopped : Unstopped (s .operators) (arity a) world
+  unfolding world
+  unstopped p q h = false≢true h
 
   runs-to : (e : Ending (s .operators)) → After (λ v. e ≡ returned v) (λ x. e ≡ failed x) (treeWorth a s) → Run (s .operators) (arity a) world (s .base) (s .registers) e
   unfolding world
@@ -235,7 +247,7 @@ module _ (a : Accepted) (s : Setting a) where
 pub runs : Runs
 unfolding world
 runs a s =
-    let r = run-ends (s .operators) (arity a) (world a s) (tree-run a s) in
+    let r = run-ends (s .operators) (arity a) (world a s) (unstopped a s) (tree-run a s) in
     (r .0, omega (arith, r .1), ends-with a s (treeWorth a s) (tree-ends a s .0) (ran a s (r .0)) (tree-ends a s .1) (r .2))
 
 -- "no instruction runs twice": the places strictly increase
@@ -244,17 +256,17 @@ unfolding world
 once a s j k p q P Q l h g =
     let M = s .operators in
     let w = world a s in
-    let first = along M (arity a) w j (tree-run a s) h in
+    let first = along M (arity a) w (unstopped a s) j (tree-run a s) h in
     let e : k ≡ (k - j) + j = omega arith in
     let there : after M (w .consts) (w .code) (k - j) (Now.at p P) ≡ Now.at q Q =
     ap (after M (w .consts) (w .code) (k - j)) (sym h) ∙ sym (after-add M (w .consts) (w .code) (k - j) j (Now.at (s .base) (s .registers))) ∙ ap (λ n. ran a s n) (sym e) ∙ g in
-    let second = along M (arity a) w (k - j) (first .run) there in
+    let second = along M (arity a) w (unstopped a s) (k - j) (first .run) there in
     omega (arith, second .on)
 
 -- "every parameter keeps its value at each step"
 pub parameters : Parameters
 unfolding world
-parameters a s k p P h r l = along (s .operators) (arity a) (world a s) k (tree-run a s) h .kept r l ∙ s .filled r l
+parameters a s k p P h r l = along (s .operators) (arity a) (world a s) (unstopped a s) k (tree-run a s) h .kept r l ∙ s .filled r l
 
 -- ---- "exactly when", both ways
 

@@ -11,10 +11,11 @@ pub mod Walks
 pub mod Law
 pub mod Asked
 pub mod Accepted
+pub mod Conditions
 pub mod AtNode
 pub mod Ieee
 pub mod Instance
-pub mod Trace
+pub mod ConditionsRefuted
 pub mod Good
 pub mod Fields
 pub mod Walked
@@ -23,6 +24,7 @@ pub mod Beyond
 pub mod Rooted
 pub mod Came
 pub mod Answers
+pub mod Smallest
 pub mod Frame
 pub mod Pooling
 pub mod Cut
@@ -30,3 +32,6 @@ pub mod Counted
 pub mod Reached
 pub mod Pace
 pub mod Full
+pub mod Refuted
+pub mod AnswersRefuted
+pub mod Meeting

@@ -14,7 +14,8 @@ use Rattle.environment.specs.declared.Register.{Register}
 use Rattle.environment.specs.declared.Found.{Found}
 use Rattle.environment.specs.Registers.{held}
 use Rattle.environment.specs.Environment.{lookup}
-use Rattle.environment.proofs.Laws.{Last, lookup-found}
+use Rattle.environment.specs.Laws.{Last}
+use Rattle.environment.proofs.Laws.{lookup-found}
 use Rattle.syntax.specs.declared.ast.Node.{Node}
 use Rattle.syntax.specs.declared.ops.BinaryOp.{BinaryOp}
 use Rattle.syntax.specs.declared.ops.UnaryOp.{UnaryOp}
@@ -28,12 +29,12 @@ use Rattle.lowering.specs.declared.Dest.{Dest}
 use Rattle.lowering.specs.Tree.{Tree, present}
 use Rattle.lowering.specs.Walk.{Made, ends, Walk, bind, _>>=_, _>>_}
 use Rattle.lowering.specs.Steps.{freeTemp, emit, loadConstant}
-use Rattle.lowering.specs.Operators.{binaryRR, binaryRK, binaryKR, unary}
+use Rattle.lowering.specs.Operators.{binaryRR, binaryRK, binaryKR, unary, jumpIf}
 use Rattle.lowering.specs.Lower.{Source, source, sameRegister, lowerMaterializing, moved, named, binarySources, lowerTail, lowerNode}
 use Rattle.lowering.specs.Meaning.{Answer, val, Unary, invert, Binary, property, Operators, Hypotheses, Worth, worth, given, andThen, IfAny, operate, unaryOf, tests, lastNamed, parameter, Chosen, Named, first, later, total}
 use Rattle.lowering.specs.Machine.{constantOf, failed, Registers, Now, action, act, fill, onward, branch, stepAt}
 use Rattle.lowering.proofs.Decode.{Proper, constant, constant-words, aim}
-use Rattle.lowering.proofs.Steps.{Holds, fine, void, chain, weaken, hit, miss, apart, count, registersOf, Held, Loose, Has, Room, Kept, kept-refl, kept-trans, Grown, grown-refl, grown-trans, grown-at, Emitted, Patched, Gave, emit-holds, patch-holds, pool-holds, give-holds}
+use Rattle.lowering.proofs.Steps.{had, Differ, differ, Holds, fine, void, chain, weaken, hit, miss, apart, count, registersOf, Held, Loose, Has, Room, Kept, kept-refl, kept-trans, Grown, grown-refl, grown-trans, grown-at, Emitted, Patched, Gave, emit-holds, patch-holds, pool-holds, give-holds}
 use Rattle.lowering.proofs.Runs.{After, worked, after-bind, ask-bind, after-map, after-ask, after-worth, Known, known-bind, known-given, pairOf, after-pair, World, Run, moved as moved-run, step-words, step-instruction, run-fill, run-branch, Fills, two-RR, two-RK, two-KR}
 use Rattle.lowering.proofs.Post.{Final, earlier, past-patch, Target, Owns, grown-owns, Aimed, destination-good, Keeps, Onward, params-kept, Sim, Lowered, Expr, literal, settled, load-good, materialized-good}
 
@@ -65,6 +66,20 @@ module _ (M : Operators) (args : ℕ → M .Value) (arity : ℕ) where
   usable-back : {b : ℕ} {m m' : Made} (x : Source) → Grown b m m' → Usable m' x → Usable m x
   usable-back (Source.register r) g h = loose-back arity r g h
   usable-back (Source.constant c) g h = h
+
+  abbrev pub Apart : Source → Source → Type 0
+  Apart (Source.register a) (Source.register b) = Differ a b
+  Apart (Source.register a) (Source.constant c) = Unit {0}
+  Apart (Source.constant c) y = Unit {0}
+
+  apart-of : (m : Made) (x y : Source) → HeldSource m x → Usable m y → Apart x y
+  apart-of m (Source.register a) (Source.register b) h u = differ arity m a b h u
+  apart-of m (Source.register a) (Source.constant c) h u = tt
+  apart-of m (Source.constant c) y h u = tt
+
+  held-later : {b : ℕ} {m m' : Made} (x : Source) → Grown b m m' → HeldSource m x → HeldSource m' x
+  held-later (Source.register r) g h = g .held (regOf r) h
+  held-later (Source.constant c) g h = h
 
   den-kept : (x : Source) (m : Made) (w : World M) {R R' : Registers M} (v : M .Value) → HeldSource m x → Keeps M args arity m Dest.Any R R' → Den x w R v → Den x w R' v
   den-kept (Source.register r) m w v h k d = k (regOf r) h tt ∙ d
@@ -99,6 +114,9 @@ module _ (M : Operators) (args : ℕ → M .Value) (arity : ℕ) where
     pub grown : Grown (count m) m m'
     pub usable-left : Usable m x
     pub usable-right : Usable m y
+    pub now-left : HeldSource m' x
+    pub now-right : HeldSource m' y
+    pub apart-both : Apart x y
     pub short : count m' ≤ count m + s
     pub known-left : Known r
     pub known-right : Known q
@@ -115,6 +133,9 @@ module _ (M : Operators) (args : ℕ → M .Value) (arity : ℕ) where
         grown = grown-trans l1 (a .grown) (b .grown);
         usable-left = a .usable;
         usable-right = usable-back y (a .grown) (b .usable);
+        now-left = held-later x (b .grown) (a .now);
+        now-right = b .now;
+        apart-both = apart-of m1 x y (a .now) (b .usable);
         short = omega arith;
         known-left = a .known;
         known-right = b .known;
@@ -142,7 +163,7 @@ module _ (M : Operators) (args : ℕ → M .Value) (arity : ℕ) where
       Aimed arity m dest d m0 → Lowered M args arity m0 Dest.Any s fair r src m2 → Grown (count m2) m2 m3 → count m3 ≡ count m2 → Emitted i m3 n m4 →
       ((w : World M) (p : ℕ) (R : Registers M) (a : M .Value) → Pools w m3 → R (regOf src) ≡ a →
       Fills M (w .consts) i p (regOf d) R (op a)) →
-      Gave (count m0) m0 m4 m6 →
+      Gave (count m0) m0 m4 src m6 →
       Lowered M args arity m dest (1 + s) fair (andThen r (λ a. given (op a))) d m6
   one-lowered op i {m} {m0} {m2} {m3} {m4} {m6} {dest} {d} {src} {s} {n} {fair} {r} a q g3 l3 g acts h =
       let l0 = a .level in
@@ -267,6 +288,13 @@ module _ (M : Operators) (consts : ℕ → Option (M .Value)) (code : ℕ → Op
   unfolding stepAt act action decode wordsOf aim offsetWord
   true-tests = refl
 
+-- and at a jump of either sense
+pub sense-tests : (M : Operators) (consts : ℕ → Option (M .Value)) (code : ℕ → Option Instruction) (sense : Bool) (r n p : ℕ) (R : Registers M) →
+    stepAt M consts code (decode (aim n (wordsOf (jumpIf sense r)))) p R ≡ onward M consts (M .test (R r)) (λ b. branch M consts (Bool·beq b sense) n p R)
+unfolding jumpIf
+sense-tests M consts code false r n p R = false-tests M consts code r n p R
+sense-tests M consts code true r n p R = true-tests M consts code r n p R
+
 -- no name is x
 none-of : (names : List ℕ) (x : ℕ) → ((j : ℕ) → j < length names → getD names j 0 ≢ x) → lastNamed names x ≡ none
 unfolding lastNamed
@@ -372,9 +400,9 @@ module _ (M : Operators) (t : Tree) (args : ℕ → M .Value) (arity : ℕ) wher
         let l2 = c .grown .kept .more in
         let l4 = g .level in
         let g4 : Grown (count m0) m0 m4 = grown-trans l2 (c .grown) (g .grown) in
-        chain (give-holds arity {b = count m0} {m₀ = m0} {m = m4} u (c .usable-left) (g4 .sound (o .sound)) (omega arith) g4) (λ _ m5 h1.
+        chain (give-holds arity {b = count m0} {m₀ = m0} {m = m4} u (c .usable-left) (had m4 u (g .grown .held (regOf u) (c .now-left))) (g4 .sound (o .sound)) (omega arith) g4) (λ _ m5 h1.
         let l5 = h1 .level in
-        chain (give-holds arity {b = count m0} {m₀ = m0} {m = m5} v (c .usable-right) (h1 .grown .sound (o .sound)) (omega arith) (h1 .grown)) (λ _ m6 h2.
+        chain (give-holds arity {b = count m0} {m₀ = m0} {m = m5} v (c .usable-right) (h1 .still v (c .apart-both) (had m4 v (g .grown .held (regOf v) (c .now-right)))) (h1 .grown .sound (o .sound)) (omega arith) (h1 .grown)) (λ _ m6 h2.
         let l6 = h2 .level in
         fine (settle (omega arith) (two-lowered M args arity (operate M op) (binaryRR op (regOf d) (regOf u) (regOf v)) a c (grown-refl _ m2) refl g
         (λ laws w p R x y pools dx dy.
@@ -384,7 +412,7 @@ module _ (M : Operators) (t : Tree) (args : ℕ → M .Value) (arity : ℕ) wher
 
     two-sources : (op : BinaryOp) (l r : ℕ) → P l → P r → {m m0 m1 m2 : Made} {dest : Dest} {d : Register} (x y : Source) → Owns arity m0 →
         Aimed arity m dest d m0 → Expr M args arity m0 Dest.Any (S l) (A l) (W l) x m1 → Expr M args arity m1 Dest.Any (S r) (A r) (W r) y m2 →
-        Holds (Two op l r m dest) (binarySources t E op l r d x y m2)
+        Holds (Two op l r m dest) (binarySources freeTemp t E op l r d x y m2)
     unfolding binarySources
     two-sources op l r pl pr {dest = dest} {d = d} (Source.register u) (Source.register v) o a ex ey =
         two-registers op l r o a (couple M args arity o (ready M args arity ex) (ready M args arity ey))
@@ -396,7 +424,7 @@ module _ (M : Operators) (t : Tree) (args : ℕ → M .Value) (arity : ℕ) wher
         let l3 = pb .level in
         let l4 = g .level in
         let g4 : Grown (count m0) m0 m4 = grown-trans l2 (c .grown) (grown-trans (omega arith) (pb .grown) (g .grown)) in
-        chain (give-holds arity {b = count m0} {m₀ = m0} {m = m4} u (c .usable-left) (g4 .sound (o .sound)) (omega arith) g4) (λ _ m6 h.
+        chain (give-holds arity {b = count m0} {m₀ = m0} {m = m4} u (c .usable-left) (had m4 u (g .grown .held (regOf u) (pb .grown .held (regOf u) (c .now-left)))) (g4 .sound (o .sound)) (omega arith) g4) (λ _ m6 h.
         let l6 = h .level in
         fine (settle (omega arith) (two-lowered M args arity (operate M op) (binaryRK op (regOf d) (regOf u) k) a c (pb .grown) l3 g
         (λ laws w p R x y pools dx dy.
@@ -411,7 +439,7 @@ module _ (M : Operators) (t : Tree) (args : ℕ → M .Value) (arity : ℕ) wher
         let l3 = pb .level in
         let l4 = g .level in
         let g4 : Grown (count m0) m0 m4 = grown-trans l2 (c .grown) (grown-trans (omega arith) (pb .grown) (g .grown)) in
-        chain (give-holds arity {b = count m0} {m₀ = m0} {m = m4} v (c .usable-right) (g4 .sound (o .sound)) (omega arith) g4) (λ _ m6 h.
+        chain (give-holds arity {b = count m0} {m₀ = m0} {m = m4} v (c .usable-right) (had m4 v (g .grown .held (regOf v) (pb .grown .held (regOf v) (c .now-right)))) (g4 .sound (o .sound)) (omega arith) g4) (λ _ m6 h.
         let l6 = h .level in
         fine (settle (omega arith) (two-lowered M args arity (operate M op) (binaryKR op (regOf d) k (regOf v)) a c (pb .grown) l3 g
         (λ laws w p R x y pools dx dy.
@@ -424,7 +452,7 @@ module _ (M : Operators) (t : Tree) (args : ℕ → M .Value) (arity : ℕ) wher
         two-registers op l r o a (couple M args arity o (ready M args arity (settled lu)) (ready M args arity (settled lv)))))
 
     pub good-binary : (op : BinaryOp) (l r : ℕ) → P l → P r → (J : ℕ → Walk ℕ) (i : ℕ) (dest : Dest) (m : Made) → Owns arity m → Target arity m dest →
-        Holds (Two op l r m dest) (lowerNode t E J i (Node.Binary op l r) dest m)
+        Holds (Two op l r m dest) (lowerNode freeTemp t E J i (Node.Binary op l r) dest m)
     unfolding lowerNode
     good-binary op l r pl pr J i dest m o g =
         chain (destination-good arity m dest o g) (λ d m0 a.
@@ -436,7 +464,7 @@ module _ (M : Operators) (t : Tree) (args : ℕ → M .Value) (arity : ℕ) wher
     -- ---- unary, not, property
 
     pub good-unary : (op : UnaryOp) (x : ℕ) → P x → (J : ℕ → Walk ℕ) (i : ℕ) (dest : Dest) (m : Made) → Owns arity m → Target arity m dest →
-        Holds (Lowers m dest (1 + (S x + 0)) (A x) (andThen (W x) (λ a. given (M .unary (unaryOf M op) a)))) (lowerNode t E J i (Node.Unary op x) dest m)
+        Holds (Lowers m dest (1 + (S x + 0)) (A x) (andThen (W x) (λ a. given (M .unary (unaryOf M op) a)))) (lowerNode freeTemp t E J i (Node.Unary op x) dest m)
     unfolding lowerNode
     good-unary op x px J i dest m o g =
         chain (destination-good arity m dest o g) (λ d m0 a.
@@ -446,12 +474,12 @@ module _ (M : Operators) (t : Tree) (args : ℕ → M .Value) (arity : ℕ) wher
         let l2 = q .grown .kept .more in
         let l4 = y .level in
         let g4 : Grown (count m0) m0 m4 = grown-trans l2 (q .grown) (y .grown) in
-        chain (give-holds arity {b = count m0} {m₀ = m0} {m = m4} u (q .spot) (g4 .sound (o0 .sound)) (omega arith) g4) (λ _ m6 h.
+        chain (give-holds arity {b = count m0} {m₀ = m0} {m = m4} u (q .spot) (had m4 u (y .grown .held (regOf u) (q .now))) (g4 .sound (o0 .sound)) (omega arith) g4) (λ _ m6 h.
         fine (settle (omega arith) (one-lowered M args arity (λ v. M .unary (unaryOf M op) v) (unary op (regOf d) (regOf u)) a q (grown-refl _ m2) refl y
         (λ w p R v pools e. unary-acts M (w .consts) op p (regOf d) (regOf u) R e) h))))))
 
     pub good-not : (x : ℕ) → P x → (J : ℕ → Walk ℕ) (i : ℕ) (dest : Dest) (m : Made) → Owns arity m → Target arity m dest →
-        Holds (Lowers m dest (1 + (S x + 0)) (A x) (andThen (W x) (λ a. given (M .unary invert a)))) (lowerNode t E J i (Node.LogicalNot x) dest m)
+        Holds (Lowers m dest (1 + (S x + 0)) (A x) (andThen (W x) (λ a. given (M .unary invert a)))) (lowerNode freeTemp t E J i (Node.LogicalNot x) dest m)
     unfolding lowerNode
     good-not x px J i dest m o g =
         chain (destination-good arity m dest o g) (λ d m0 a.
@@ -461,13 +489,13 @@ module _ (M : Operators) (t : Tree) (args : ℕ → M .Value) (arity : ℕ) wher
         let l2 = q .grown .kept .more in
         let l4 = y .level in
         let g4 : Grown (count m0) m0 m4 = grown-trans l2 (q .grown) (y .grown) in
-        chain (give-holds arity {b = count m0} {m₀ = m0} {m = m4} u (q .spot) (g4 .sound (o0 .sound)) (omega arith) g4) (λ _ m6 h.
+        chain (give-holds arity {b = count m0} {m₀ = m0} {m = m4} u (q .spot) (had m4 u (y .grown .held (regOf u) (q .now))) (g4 .sound (o0 .sound)) (omega arith) g4) (λ _ m6 h.
         fine (settle (omega arith) (one-lowered M args arity (λ v. M .unary invert v) (Instruction.Not (regOf d) (regOf u)) a q (grown-refl _ m2) refl y
         (λ w p R v pools e. not-acts M (w .consts) p (regOf d) (regOf u) R e) h))))))
 
     pub good-property : (x symbol : ℕ) → P x → (J : ℕ → Walk ℕ) (i : ℕ) (dest : Dest) (m : Made) → Owns arity m → Target arity m dest →
         Holds (Lowers m dest (1 + (S x + 0)) (A x) (andThen (W x) (λ a. given (M .binary property a (M .string symbol)))))
-        (lowerNode t E J i (Node.PropertyAccess x symbol) dest m)
+        (lowerNode freeTemp t E J i (Node.PropertyAccess x symbol) dest m)
     unfolding lowerNode Proper constant
     good-property x symbol px J i dest m o g =
         chain (destination-good arity m dest o g) (λ d m0 a.
@@ -479,7 +507,7 @@ module _ (M : Operators) (t : Tree) (args : ℕ → M .Value) (arity : ℕ) wher
         let l3 = pb .level in
         let l4 = y .level in
         let g4 : Grown (count m0) m0 m4 = grown-trans l2 (q .grown) (grown-trans (omega arith) (pb .grown) (y .grown)) in
-        chain (give-holds arity {b = count m0} {m₀ = m0} {m = m4} u (q .spot) (g4 .sound (o0 .sound)) (omega arith) g4) (λ _ m6 h.
+        chain (give-holds arity {b = count m0} {m₀ = m0} {m = m4} u (q .spot) (had m4 u (y .grown .held (regOf u) (pb .grown .held (regOf u) (q .now)))) (g4 .sound (o0 .sound)) (omega arith) g4) (λ _ m6 h.
         fine (settle (omega arith) (one-lowered M args arity (λ v. M .binary property v (M .string symbol)) (Instruction.GetPropertyK (regOf d) (regOf u) k) a q
         (pb .grown) l3 y
         (λ w p R v pools e. property-acts M (w .consts) p (regOf d) (regOf u) k R e
@@ -546,7 +574,7 @@ module _ (M : Operators) (t : Tree) (args : ℕ → M .Value) (arity : ℕ) wher
 
     pub good-and : (l r : ℕ) → P l → P r → (J : ℕ → Walk ℕ) (i : ℕ) (dest : Dest) (m : Made) → Owns arity m → Target arity m dest →
         Holds (Lowers m dest (1 + (S l + (S r + 0))) (A l × IfAny (λ b. Chosen M t args b (A r) (Unit {0})) (tests M (W l)))
-        (andThen (W l) (λ a. andThen (given (M .test a)) (λ b. cond b (W r) (worth a))))) (lowerNode t E J i (Node.LogicalAnd l r) dest m)
+        (andThen (W l) (λ a. andThen (given (M .test a)) (λ b. cond b (W r) (worth a))))) (lowerNode freeTemp t E J i (Node.LogicalAnd l r) dest m)
     unfolding lowerNode
     good-and l r pl pr J i dest m o x =
         chain (destination-good arity m dest o x) (λ d m0 a.
@@ -567,7 +595,7 @@ module _ (M : Operators) (t : Tree) (args : ℕ → M .Value) (arity : ℕ) wher
 
     pub good-or : (l r : ℕ) → P l → P r → (J : ℕ → Walk ℕ) (i : ℕ) (dest : Dest) (m : Made) → Owns arity m → Target arity m dest →
         Holds (Lowers m dest (1 + (S l + (S r + 0))) (A l × IfAny (λ b. Chosen M t args b (Unit {0}) (A r)) (tests M (W l)))
-        (andThen (W l) (λ a. andThen (given (M .test a)) (λ b. cond b (worth a) (W r))))) (lowerNode t E J i (Node.LogicalOr l r) dest m)
+        (andThen (W l) (λ a. andThen (given (M .test a)) (λ b. cond b (worth a) (W r))))) (lowerNode freeTemp t E J i (Node.LogicalOr l r) dest m)
     unfolding lowerNode
     good-or l r pl pr J i dest m o x =
         chain (destination-good arity m dest o x) (λ d m0 a.
@@ -597,7 +625,7 @@ module _ (M : Operators) (t : Tree) (args : ℕ → M .Value) (arity : ℕ) wher
 
     pub good-block : (tail : ℕ) → (Named tail (present tail) → P tail) → (J : ℕ → Walk ℕ) (i : ℕ) (dest : Dest) (m : Made) → Owns arity m → Target arity m dest →
         Holds (Lowers m dest (1 + total S (present tail)) (Chosen M t args (eqb tail absent) (Unit {0}) (A tail)) (cond (eqb tail absent) (worth (M .nil)) (W tail)))
-        (lowerNode t E J i (Node.Block tail) dest m)
+        (lowerNode freeTemp t E J i (Node.Block tail) dest m)
     unfolding lowerNode lowerTail present
     good-block tail p J i dest m o g =
         chain (destination-good arity m dest o g) (λ d m0 a.

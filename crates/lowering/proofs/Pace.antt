@@ -25,15 +25,16 @@ use Rattle.runtime.specs.Function.{emitInstruction, storeConstant, maxInstructi
 use Rattle.lowering.specs.declared.Dest.{Dest}
 use Rattle.lowering.specs.Tree.{Tree, node, children}
 use Rattle.lowering.specs.Questions.{question7}
-use Rattle.lowering.specs.Walk.{Made, Outcome, ends, stops, Walk, bind, _>>=_, _>>_, ret, error}
+use Rattle.lowering.specs.Checked.{Checked}
+use Rattle.lowering.specs.Walk.{Made, Outcome, ends, stops, Walk, bind, _>>=_, _>>_, ret, error, left}
 use Rattle.lowering.specs.Steps.{placed, registered, withRegisters, withCode, withConstants, withMarks, allocateTemp, destination, freeTemp, emit, store, loadConstant, patchJump, mark, patchArgument, patchMarks, patchArguments}
 use Rattle.lowering.specs.Operators.{comparison}
 use Rattle.lowering.specs.Lower.{Source, register, constant, source, sameRegister, materialized, lowerMaterializing, moved, named, binarySources, lowerArguments, storeNamed, storeKeyed, lowerEntry, lowerEntries, lowerElse, lowerTail, lowerNode, tested, fusedSources, fused, jumpNode, expressionBelow, jumpBelow, lowerExpression, lowerJumpIfFalse, lowerJumpIfTrue}
 use Rattle.lowering.specs.Result.{lowerRoot}
 use Rattle.lowering.specs.Meaning.{Named, first, later}
-use Rattle.lowering.proofs.Checked.{Checked, Fits, checked-fits, checked-at}
-use Rattle.lowering.proofs.Trace.{instructionsOf, marksOf}
-use Rattle.lowering.proofs.Everywhere.{left, below-named}
+use Rattle.lowering.specs.Trace.{instructionsOf, marksOf}
+use Rattle.lowering.proofs.Checked.{Fits, checked-fits, checked-at}
+use Rattle.lowering.proofs.Everywhere.{below-named}
 
 -- what an append leaves, by its answer
 abbrev chosen : Made → Instruction → Bool → Buffer
@@ -191,7 +192,7 @@ module _ (t : Tree) (b : ℕ) where
     finish-two : (i : Instruction) (src1 src2 d : Register) → Steady b (emit i >> (freeTemp src1 >> (freeTemp src2 >> ret (Operand.Register d))))
     finish-two i src1 src2 d = steady-chain (steady-emit b i) (λ p. steady-chain (steady-free b src1) (λ u. steady-chain (steady-free b src2) (λ v. steady-ret _)))
 
-    steady-sources : (op : BinaryOp) (left right : ℕ) (d : Register) (x y : Source) → Steady b (binarySources t E op left right d x y)
+    steady-sources : (op : BinaryOp) (left right : ℕ) (d : Register) (x y : Source) → Steady b (binarySources freeTemp t E op left right d x y)
     unfolding binarySources
     steady-sources op left right d (constant x) (constant y) = steady-chain (child left Dest.Any) (λ r. steady-chain (child right Dest.Any) (λ q. finish-two _ r q d))
     steady-sources op left right d (register x) (constant y) = steady-chain (steady-store b y) (λ k. finish-one _ x d)
@@ -234,7 +235,7 @@ module _ (t : Tree) (b : ℕ) where
         (λ r. pace-chain 0 (suc n) (b + suc n) (omega arith) (omega arith) (omega arith) (ahead-mark b _ _ _) (λ q. ahead-arguments i start n (suc k)))
 
     module _ (J : ℕ → Walk ℕ) (jumps : (i : ℕ) → Steady b (J i)) where
-      steady-call : (i callee start count : ℕ) (dest : Dest) → count ≤ 255 → Steady (b + 255) (lowerNode t E J i (Node.FunctionCall callee start count) dest)
+      steady-call : (i callee start count : ℕ) (dest : Dest) → count ≤ 255 → Steady (b + 255) (lowerNode freeTemp t E J i (Node.FunctionCall callee start count) dest)
       unfolding lowerNode
       steady-call i callee start count dest h =
           pace-chain 0 0 (b + 255) (omega arith) (omega arith) (omega arith) (ahead-arguments i start count 0)
@@ -243,7 +244,7 @@ module _ (t : Tree) (b : ℕ) where
           (λ src. pace-chain 255 0 b (omega arith) (omega arith) (omega arith) (paid-emit b _)
           (λ p. steady-chain (steady-free b src) (λ v. steady-ret (Operand.Register d))))))
 
-      steady-node : (i : ℕ) (n : Node) (dest : Dest) → Fits (length (t .list)) n → Steady (b + 255) (lowerNode t E J i n dest)
+      steady-node : (i : ℕ) (n : Node) (dest : Dest) → Fits (length (t .list)) n → Steady (b + 255) (lowerNode freeTemp t E J i n dest)
       unfolding lowerNode lowerElse lowerTail
       steady-node i (Node.Number low high) dest f = steady-ret _
       steady-node i (Node.String symbol) dest f = steady-ret _
@@ -320,18 +321,18 @@ module _ (t : Tree) (checked : Checked t) where
   mutual
     unfolding expressionBelow jumpBelow
 
-    expression-pace : (f i : ℕ) (dest : Dest) → Steady (255 * f) (expressionBelow t f i dest)
+    expression-pace : (f i : ℕ) (dest : Dest) → Steady (255 * f) (expressionBelow freeTemp t f i dest)
     expression-pace zero i dest = steady-stop _
     expression-pace (suc f) i dest =
         steady-more (omega arith)
-        (steady-node t (255 * f) (expressionBelow t f) (λ j d. expression-pace f j d) (jumpBelow t f) (λ j. jump-pace f j) i (node t i) dest (checked-fits checked i))
+        (steady-node t (255 * f) (expressionBelow freeTemp t f) (λ j d. expression-pace f j d) (jumpBelow freeTemp t f) (λ j. jump-pace f j) i (node t i) dest (checked-fits checked i))
 
-    jump-pace : (f i : ℕ) → Steady (255 * f) (jumpBelow t f i)
+    jump-pace : (f i : ℕ) → Steady (255 * f) (jumpBelow freeTemp t f i)
     jump-pace zero i = steady-stop _
     jump-pace (suc f) i =
-        steady-jump t (255 * suc f) (expressionBelow t f) (λ j. Unit {0}) (λ j u d. steady-more (omega arith) (expression-pace f j d)) false
-        (λ d. lowerNode t (expressionBelow t f) (jumpBelow t f) i (node t i) d)
-        (λ d. steady-more (omega arith) (steady-node t (255 * f) (expressionBelow t f) (λ j e. expression-pace f j e) (jumpBelow t f) (λ j. jump-pace f j) i (node t i) d (checked-fits checked i)))
+        steady-jump t (255 * suc f) (expressionBelow freeTemp t f) (λ j. Unit {0}) (λ j u d. steady-more (omega arith) (expression-pace f j d)) false
+        (λ d. lowerNode freeTemp t (expressionBelow freeTemp t f) (jumpBelow freeTemp t f) i (node t i) d)
+        (λ d. steady-more (omega arith) (steady-node t (255 * f) (expressionBelow freeTemp t f) (λ j e. expression-pace f j e) (jumpBelow freeTemp t f) (λ j. jump-pace f j) i (node t i) d (checked-fits checked i)))
         (node t i) (λ c n. tt)
 
   steady-argument : (b place : ℕ) → Steady b (patchArgument place)
@@ -354,23 +355,23 @@ module _ (t : Tree) (checked : Checked t) where
   unfolding patchArguments
   steady-arguments b = record { at = λ m. steady-marks b (m .state .marks) 0 .at m }
 
-  root-pace : (mode root : ℕ) → Steady (255 * suc root) (lowerRoot t mode root)
+  root-pace : (mode root : ℕ) → Steady (255 * suc root) (lowerRoot freeTemp t mode root)
   unfolding lowerRoot lowerExpression lowerJumpIfFalse lowerJumpIfTrue question7
   root-pace zero root =
       let b : ℕ = 255 * suc root in
-      steady-chain (steady-materializing b (expressionBelow t (suc root) root) Dest.Any (expression-pace (suc root) root Dest.Any)) (λ src.
+      steady-chain (steady-materializing b (expressionBelow freeTemp t (suc root) root) Dest.Any (expression-pace (suc root) root Dest.Any)) (λ src.
       steady-chain (steady-emit b _) (λ p. steady-chain (steady-arguments b) (λ u. steady-ret 0)))
   root-pace (suc zero) root = steady-chain (jump-pace (suc root) root) (λ j. steady-chain (steady-arguments (255 * suc root)) (λ u. steady-ret j))
   root-pace (suc (suc mode)) root =
       steady-chain
-      (steady-jump t (255 * suc root) (λ n. expressionBelow t (suc n) n) (λ n. n < root) (λ n l d. steady-more (omega arith) (expression-pace (suc n) n d)) true
-      (expressionBelow t (suc root) root) (expression-pace (suc root) root) (node t root) (λ c n. below-named root n (checked-at checked root .order)))
+      (steady-jump t (255 * suc root) (λ n. expressionBelow freeTemp t (suc n) n) (λ n. n < root) (λ n l d. steady-more (omega arith) (expression-pace (suc n) n d)) true
+      (expressionBelow freeTemp t (suc root) root) (expression-pace (suc root) root) (node t root) (λ c n. below-named root n (checked-at checked root .order)))
       (λ j. steady-chain (steady-arguments (255 * suc root)) (λ u. steady-ret j))
 
   -- At most 255 marks for each instruction and for each node up to the root, whatever lowering comes to.
-  pub marks-few : (mode root : ℕ) (m : Made) → marksOf (left (lowerRoot t mode root m)) ≤ marksOf m + 255 * instructionsOf (left (lowerRoot t mode root m)) + 255 * (root + 1)
+  pub marks-few : (mode root : ℕ) (m : Made) → marksOf (left (lowerRoot freeTemp t mode root m)) ≤ marksOf m + 255 * instructionsOf (left (lowerRoot freeTemp t mode root m)) + 255 * (root + 1)
   unfolding left
-  marks-few mode root m = go (lowerRoot t mode root m) (root-pace mode root .at m)
+  marks-few mode root m = go (lowerRoot freeTemp t mode root m) (root-pace mode root .at m)
     where
       go : (o : Outcome ℕ) → PaceOf 0 0 (255 * suc root) m o → marksOf (left o) ≤ marksOf m + 255 * instructionsOf (left o) + 255 * (root + 1)
       go (ends a n) h = omega arith

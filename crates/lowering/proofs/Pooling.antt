@@ -20,16 +20,13 @@ use Rattle.runtime.specs.Value.{constantWords}
 use Rattle.runtime.specs.Function.{storeConstant}
 use Rattle.runtime.proofs.Pool.{store-at}
 use Rattle.lowering.specs.Tree.{Tree, node}
-use Rattle.lowering.specs.Walk.{Made, Outcome, ends, Walk}
+use Rattle.lowering.specs.Walk.{Made, Outcome, ends, Walk, left}
 use Rattle.lowering.specs.Steps.{placed, withConstants, store}
 use Rattle.lowering.specs.Meaning.{Named, first, later, Reaches}
+use Rattle.lowering.specs.Trace.{Runs, Step, takes, gives, leaves, emits, finds, pools, patches, marks, moves, refuses, constantOfNode, constantsOf}
+use Rattle.lowering.specs.Pool.{constantAt}
 use Rattle.lowering.proofs.Decode.{constant-length}
-use Rattle.lowering.proofs.Trace.{Runs, Step, takes, gives, leaves, emits, finds, pools, patches, marks, moves, refuses, constantOfNode, constantsOf}
-use Rattle.lowering.proofs.Everywhere.{left, along}
-
--- the words of constant p
-abbrev pub constantAt : Made → ℕ → List ℕ
-constantAt m p = recordAt 3 (m .constants) p
+use Rattle.lowering.proofs.Everywhere.{along}
 
 -- no two constants are the same
 abbrev pub Distinct : Made → Type 0
@@ -123,7 +120,7 @@ module _ (t : Tree) (root : ℕ) where
   pooled-each {m = m} (patches j l k) = same-pool m refl refl
   pooled-each {m = m} (marks i start end z h) = same-pool m refl refl
   pooled-each {m = m} (moves place l k b) = same-pool m refl refl
-  pooled-each {m = m} (refuses o) = same-pool m refl refl
+  pooled-each {m = m} (refuses q o) = same-pool m refl refl
 
   -- of any run
   pub runs-pool : {A : Type 0} {w : Walk A} {m : Made} {o : Outcome A} → Runs t root A w m o → Pooled m (left o)

@@ -10,7 +10,7 @@ use mathlib.Core.Logic.{_≢_}
 use mathlib.Core.List.{List}
 use mathlib.Core.Option.{some}
 use Rattle.environment.specs.declared.Register.{Register}
-use Rattle.environment.proofs.Laws.{Sound}
+use Rattle.environment.specs.Laws.{Sound}
 use Rattle.runtime.specs.declared.instruction.Instruction.{Instruction}
 use Rattle.runtime.specs.declared.operand.Operand.{Operand}
 use Rattle.runtime.specs.Operands.{regOf}

@@ -1,9 +1,9 @@
--- Runs of the machine, built from their end: each step stays below a limit, goes to a higher place and leaves the parameters as they were. And
--- the tables of the operators' instructions and of the fused jumps. Assumes nothing.
+-- Runs of the machine, built from their end: each step stays below a limit, goes to a higher place, or leaves the run, and keeps the parameters
+-- as they were. And the tables of the operators' instructions and of the fused jumps. Assumes nothing.
 use Prim.Native.Nat.{ℕ, suc, _+_, _≤_, _<_}
 use native.Mathlib.Omega.{arith}
-use mathlib.Core.Path.{_≡_, refl, sym, ap, _∙_, subst, ap₂}
-use mathlib.Core.Bool.{Bool, true, false, cond}
+use mathlib.Core.Path.{_≡_, refl, sym, ap, _∙_, subst}
+use mathlib.Core.Bool.{Bool, true, false, cond, Bool·beq}
 use mathlib.Core.Option.{Option, some}
 use mathlib.Core.List.{List}
 use borrow.Author.Tests.{lt-ltb}
@@ -12,7 +12,7 @@ use Rattle.syntax.specs.declared.ops.Comparison.{Comparison}
 use Rattle.runtime.specs.declared.instruction.Instruction.{Instruction}
 use Rattle.runtime.specs.Instruction.{wordsOf, decode, offsetWord}
 use Rattle.lowering.specs.Operators.{binaryRR, binaryRK, binaryKR, jumpRR, jumpRK, jumpKR}
-use Rattle.lowering.specs.Meaning.{Answer, val, fail, equal, unequal, less, lessEqual, Operators, opposite, Hypotheses, Ordered, Worth, worth, fails, undefined, given, andThen, IfAny, met, unmet, unasked, truth, operate}
+use Rattle.lowering.specs.Meaning.{Answer, val, fail, equal, unequal, less, lessEqual, Operators, opposite, Hypotheses, Ordered, Worth, worth, fails, undefined, given, andThen, IfAny, met, unmet, unasked, truth, operate, AtRoot}
 use Rattle.lowering.specs.Machine.{action, target, Ending, returned, failed, Registers, Now, ended, fill, onward, goTo, branch, act, stepAt, step}
 use Rattle.lowering.proofs.Decode.{decode-words, aim}
 use Rattle.lowering.proofs.Steps.{miss}
@@ -81,11 +81,33 @@ ask-pair (worth a) undefined h = unasked
 ask-pair (fails x) s h = unmet
 ask-pair undefined s h = unasked
 
-pub after-opposite : {F : Type 0} (P : ℕ → Type 0) {L : F → Type 0} (y n : ℕ) (r : Answer F Bool) →
-    After (λ b. P (cond b y n)) L (given r) → After (λ b. P (cond b n y)) L (given (opposite r))
-after-opposite P y n (val true) (worked k) = worked k
-after-opposite P y n (val false) (worked k) = worked k
-after-opposite P y n (fail x) (broke l) = broke l
+-- what is asked at a jump that is taken where an answer is `sense`
+abbrev pub sensed : {F : Type 0} → Bool → Answer F Bool → Answer F Bool
+sensed true r = r
+sensed false r = opposite r
+
+pub after-sensed : {F : Type 0} (sense : Bool) (P : ℕ → Type 0) {L : F → Type 0} (y n : ℕ) (r : Answer F Bool) →
+    After (λ b. P (cond (Bool·beq b sense) y n)) L (given r) → After (λ b. P (cond b y n)) L (given (sensed sense r))
+after-sensed true P y n (val true) (worked k) = worked k
+after-sensed true P y n (val false) (worked k) = worked k
+after-sensed true P y n (fail x) (broke l) = broke l
+after-sensed false P y n (val true) (worked k) = worked k
+after-sensed false P y n (val false) (worked k) = worked k
+after-sensed false P y n (fail x) (broke l) = broke l
+
+-- the order premise of two values, where it is asked
+pub premise-pair : {F A B : Type 0} (P : A → B → Type 0) (sense : Bool) (r : Worth F A) (s : Worth F B) →
+    AtRoot sense (IfAny (λ a. IfAny (λ b. P a b) s) r) → IfAny (λ v. AtRoot sense (P (v .0) (v .1))) (pairOf r s)
+premise-pair P false r s h = ask-pair r s h
+premise-pair P true (worth a) (worth b) h = met tt
+premise-pair P true (worth a) (fails x) h = unmet
+premise-pair P true (worth a) undefined h = unasked
+premise-pair P true (fails x) s h = unmet
+premise-pair P true undefined s h = unasked
+
+pub premise-map : (sense : Bool) {A B : Type 0} → (A → B) → AtRoot sense A → AtRoot sense B
+premise-map false f h = f h
+premise-map true f h = tt
 
 pub after-truth : (M : Operators) {K : M .Value → Type 0} {L : M .Failure → Type 0} (r : Answer (M .Failure) Bool) →
     After K L (given (truth M r)) → After (λ b. K (M .boolean b)) L (given r)
@@ -97,21 +119,35 @@ after-given e h = after-worth (ap given e) h
 
 -- ---- runs
 
--- where a run is: the constants and the code by place, the place of the lowered code's start, and a place that the run stays below
+-- where a run is: the constants and the code by place, the place of the lowered code's start, a place that the run stays below, and the steps by
+-- which it is left, from a place to a place: none, but for the jump of a condition
 pub record World (M : Operators) : Type 0 where
   pub consts : ℕ → Option (M .Value)
   pub code : ℕ → Option Instruction
   pub base : ℕ
   pub limit : ℕ
+  pub stop : ℕ → ℕ → Bool
 
 module _ (M : Operators) (arity : ℕ) (w : World M) where
   abbrev pub stepOf : Now M → Now M
   stepOf now = step M (w .consts) (w .code) now
 
+  -- it ends, or is left
   pub data Run : ℕ → Registers M → Ending M → Type 0 where
+    leave : {p q : ℕ} {R Q : Registers M} {e : Ending M} → p < w .limit → stepOf (Now.at p R) ≡ Now.at q Q → w .stop p q ≡ true →
+        ((r : ℕ) → r < arity → Q r ≡ R r) → Run p R e
     last : {p : ℕ} {R : Registers M} {e : Ending M} → p < w .limit → stepOf (Now.at p R) ≡ ended e → Run p R e
     next : {p q : ℕ} {R Q : Registers M} {e : Ending M} → p < w .limit → stepOf (Now.at p R) ≡ Now.at q Q → p < q →
         ((r : ℕ) → r < arity → Q r ≡ R r) → Run q Q e → Run p R e
+
+  -- from a place on: to a higher one, where the run goes on, or out of the run
+  pub data Onto (p q : ℕ) (R : Registers M) (e : Ending M) : Type 0 where
+    up : p < q → Run q R e → Onto p q R e
+    out : w .stop p q ≡ true → Onto p q R e
+
+  pub onto : {p q : ℕ} {R : Registers M} {e : Ending M} → p < w .limit → stepOf (Now.at p R) ≡ Now.at q R → Onto p q R e → Run p R e
+  onto l s (up h k) = next l s h (λ r z. refl) k
+  onto l s (out x) = leave l s x (λ r z. refl)
 
   pub moved : {p q : ℕ} {R : Registers M} {e : Ending M} → p ≡ q → Run p R e → Run q R e
   moved {p} {q} {R} {e} s k = subst (λ x. Run x R e) s k
@@ -136,22 +172,28 @@ module _ (M : Operators) (arity : ℕ) (w : World M) where
   unfolding target
   target-forward p k h = rw (lt-ltb k 2147483648 h)
 
-  branch-goes : (t : Bool) (k p : ℕ) (R : Registers M) → k < 2147483648 → branch M (w .consts) t k p R ≡ Now.at (cond t (p + k) (suc p)) R
-  branch-goes true k p R h = rw (target-forward p k h)
-  branch-goes false k p R h = refl
+  branch-goes : (t : Bool) (k p goal : ℕ) (R : Registers M) → target p k ≡ some goal → branch M (w .consts) t k p R ≡ Now.at (cond t goal (suc p)) R
+  branch-goes true k p goal R h = rw h
+  branch-goes false k p goal R h = refl
 
   -- an answer decides whether to jump
+  pub run-goes : {A : Type 0} (r : Answer (M .Failure) A) (f : A → Bool) (k p goal no-at : ℕ) (R : Registers M) {e : Ending M} →
+      stepOf (Now.at p R) ≡ onward M (w .consts) r (λ b. branch M (w .consts) (f b) k p R) → p < w .limit → target p k ≡ some goal → no-at ≡ suc p →
+      After (λ b. Onto p (cond (f b) goal no-at) R e) (λ x. e ≡ failed x) (given r) → Run p R e
+  run-goes (val v) f k p goal n R {e} s l b c (worked g) =
+      onto l (s ∙ branch-goes (f v) k p goal R b ∙ ap (λ x. Now.at (cond (f v) goal x) R) (sym c)) g
+  run-goes (fail x) f k p goal n R s l b c (broke g) = last l (s ∙ ap ended (sym g))
+
+  -- forward
   pub run-branch : {A : Type 0} (r : Answer (M .Failure) A) (f : A → Bool) (k p yes-at no-at : ℕ) (R : Registers M) {e : Ending M} →
       stepOf (Now.at p R) ≡ onward M (w .consts) r (λ b. branch M (w .consts) (f b) k p R) → p < w .limit → 0 < k → k < 2147483648 →
       yes-at ≡ p + k → no-at ≡ suc p →
       After (λ b. Run (cond (f b) yes-at no-at) R e) (λ x. e ≡ failed x) (given r) → Run p R e
-  run-branch (val v) f k p y n R {e} s l h b a c (worked g) =
-      next l (s ∙ branch-goes (f v) k p R b) (later (f v)) (λ r z. refl) (moved (ap₂ (cond (f v)) a c) g)
+  run-branch r f k p y n R s l h b a c g = run-goes r f k p y n R s l (target-forward p k b ∙ ap some (sym a)) c (after-map g (λ v x. up (later (f v)) x))
     where
-      later : (t : Bool) → p < cond t (p + k) (suc p)
+      later : (t : Bool) → p < cond t y n
       later true = omega arith
       later false = omega arith
-  run-branch (fail x) f k p y n R s l h b a c (broke g) = last l (s ∙ ap ended (sym g))
 
   pub run-jump : (p to k : ℕ) (R : Registers M) {e : Ending M} → stepOf (Now.at p R) ≡ goTo M (w .consts) (target p k) R → p < w .limit →
       k < 2147483648 → to ≡ p + k → p < to → Run to R e → Run p R e
@@ -250,7 +292,7 @@ module _ (M : Operators) where
 
     module _ (code : ℕ → Option Instruction) where
       -- six comparisons in three shapes: the jump is taken where the test is false
-      pub jump-RR : (c : Comparison) (n p a b : ℕ) (R : Registers M) → OrderOf c (R a) (R b) → Branches M consts code (jumpRR false c a b) n p R (opposite (asked c (R a) (R b)))
+      jump-RR : (c : Comparison) (n p a b : ℕ) (R : Registers M) → OrderOf c (R a) (R b) → Branches M consts code (jumpRR false c a b) n p R (opposite (asked c (R a) (R b)))
       unfolding stepAt act action jumpRR decode wordsOf aim offsetWord
       jump-RR Comparison.Equal n p a b R o = ap (λ r. onward M consts r (λ t. branch M consts t n p R)) (laws .unequal-opposite _ _)
       jump-RR Comparison.NotEqual n p a b R o = ap (λ r. onward M consts r (λ t. branch M consts t n p R)) (equal-opposite _ _)
@@ -259,7 +301,7 @@ module _ (M : Operators) where
       jump-RR Comparison.Greater n p a b R o = ap (λ r. onward M consts r (λ t. branch M consts t n p R)) (o .1)
       jump-RR Comparison.GreaterEqual n p a b R o = ap (λ r. onward M consts r (λ t. branch M consts t n p R)) (turned _ _ (o .0))
 
-      pub jump-RK : (c : Comparison) (n p a k : ℕ) (R : Registers M) {v : M .Value} → consts k ≡ some v → OrderOf c (R a) v →
+      jump-RK : (c : Comparison) (n p a k : ℕ) (R : Registers M) {v : M .Value} → consts k ≡ some v → OrderOf c (R a) v →
           Branches M consts code (jumpRK false c a k) n p R (opposite (asked c (R a) v))
       unfolding stepAt act action jumpRK decode wordsOf aim offsetWord
       jump-RK Comparison.Equal n p a k R e o = rw e (ap (λ r. onward M consts r (λ t. branch M consts t n p R)) (laws .unequal-opposite _ _))
@@ -269,7 +311,7 @@ module _ (M : Operators) where
       jump-RK Comparison.Greater n p a k R e o = rw e (ap (λ r. onward M consts r (λ t. branch M consts t n p R)) (o .1))
       jump-RK Comparison.GreaterEqual n p a k R e o = rw e (ap (λ r. onward M consts r (λ t. branch M consts t n p R)) (turned _ _ (o .0)))
 
-      pub jump-KR : (c : Comparison) (n p k b : ℕ) (R : Registers M) {v : M .Value} → consts k ≡ some v → OrderOf c v (R b) →
+      jump-KR : (c : Comparison) (n p k b : ℕ) (R : Registers M) {v : M .Value} → consts k ≡ some v → OrderOf c v (R b) →
           Branches M consts code (jumpKR false c k b) n p R (opposite (asked c v (R b)))
       unfolding stepAt act action jumpKR decode wordsOf aim offsetWord
       jump-KR Comparison.Equal n p k b R e o = rw e (ap (λ r. onward M consts r (λ t. branch M consts t n p R)) (laws .unequal-opposite _ _ ∙ ap opposite (laws .equal-order _ _)))
@@ -278,3 +320,37 @@ module _ (M : Operators) where
       jump-KR Comparison.LessEqual n p k b R e o = rw e (ap (λ r. onward M consts r (λ t. branch M consts t n p R)) (turned _ _ (o .1)))
       jump-KR Comparison.Greater n p k b R e o = rw e (ap (λ r. onward M consts r (λ t. branch M consts t n p R)) (o .1))
       jump-KR Comparison.GreaterEqual n p k b R e o = rw e (ap (λ r. onward M consts r (λ t. branch M consts t n p R)) (turned _ _ (o .0)))
+
+      -- and of either sense: where it is the test's own, no order is asked
+      pub sense-RR : (sense : Bool) (c : Comparison) (n p a b : ℕ) (R : Registers M) → AtRoot sense (OrderOf c (R a) (R b)) →
+          Branches M consts code (jumpRR sense c a b) n p R (sensed sense (asked c (R a) (R b)))
+      unfolding stepAt act action jumpRR decode wordsOf aim offsetWord
+      sense-RR false c n p a b R o = jump-RR c n p a b R o
+      sense-RR true Comparison.Equal n p a b R o = refl
+      sense-RR true Comparison.NotEqual n p a b R o = refl
+      sense-RR true Comparison.Less n p a b R o = refl
+      sense-RR true Comparison.LessEqual n p a b R o = refl
+      sense-RR true Comparison.Greater n p a b R o = refl
+      sense-RR true Comparison.GreaterEqual n p a b R o = refl
+
+      pub sense-RK : (sense : Bool) (c : Comparison) (n p a k : ℕ) (R : Registers M) {v : M .Value} → consts k ≡ some v → AtRoot sense (OrderOf c (R a) v) →
+          Branches M consts code (jumpRK sense c a k) n p R (sensed sense (asked c (R a) v))
+      unfolding stepAt act action jumpRK decode wordsOf aim offsetWord
+      sense-RK false c n p a k R e o = jump-RK c n p a k R e o
+      sense-RK true Comparison.Equal n p a k R e o = rw e
+      sense-RK true Comparison.NotEqual n p a k R e o = rw e
+      sense-RK true Comparison.Less n p a k R e o = rw e
+      sense-RK true Comparison.LessEqual n p a k R e o = rw e
+      sense-RK true Comparison.Greater n p a k R e o = rw e
+      sense-RK true Comparison.GreaterEqual n p a k R e o = rw e
+
+      pub sense-KR : (sense : Bool) (c : Comparison) (n p k b : ℕ) (R : Registers M) {v : M .Value} → consts k ≡ some v → AtRoot sense (OrderOf c v (R b)) →
+          Branches M consts code (jumpKR sense c k b) n p R (sensed sense (asked c v (R b)))
+      unfolding stepAt act action jumpKR decode wordsOf aim offsetWord
+      sense-KR false c n p k b R e o = jump-KR c n p k b R e o
+      sense-KR true Comparison.Equal n p k b R e o = rw (e, laws .equal-order _ _)
+      sense-KR true Comparison.NotEqual n p k b R e o = rw (e, unequal-order _ _)
+      sense-KR true Comparison.Less n p k b R e o = rw e
+      sense-KR true Comparison.LessEqual n p k b R e o = rw e
+      sense-KR true Comparison.Greater n p k b R e o = rw e
+      sense-KR true Comparison.GreaterEqual n p k b R e o = rw e

@@ -21,7 +21,8 @@ use Rattle.environment.specs.declared.RegisterSet.{RegisterSet}
 use Rattle.environment.specs.declared.Found.{Found}
 use Rattle.environment.specs.Registers.{held}
 use Rattle.environment.specs.Environment.{allocated, freed}
-use Rattle.environment.proofs.Laws.{Sound, Takes, Gives, Allocates, allocates, allocated-sound, free-temporary, free-local, freed-sound}
+use Rattle.environment.specs.Laws.{Sound, Takes, Gives}
+use Rattle.environment.proofs.Laws.{Allocates, allocates, allocated-sound, free-temporary, free-local, give-sound}
 use Rattle.runtime.specs.declared.instruction.Instruction.{Instruction}
 use Rattle.runtime.specs.declared.operand.Operand.{Operand}
 use Rattle.runtime.specs.Operands.{regOf}
@@ -184,26 +185,57 @@ take-holds m = go (allocated Register.Temp (registersOf m) .register) refl
 
 -- ---- a register is given back that an earlier state held loosely
 
-pub record Gave (b : ℕ) (m₀ m m' : Made) : Type 0 where
+-- a temporary that is held
+abbrev pub Had : Made → Register → Type 0
+Had m (Register.Temp r) = Held m r
+Had m (Register.Local r) = Unit {0}
+
+pub had : (m : Made) (r : Register) → Held m (regOf r) → Had m r
+unfolding regOf
+had m (Register.Temp r) h = h
+had m (Register.Local r) h = tt
+
+-- two registers that are not the same temporary
+abbrev pub Differ : Register → Register → Type 0
+Differ (Register.Temp a) (Register.Temp b) = b ≢ a
+Differ (Register.Temp a) (Register.Local b) = Unit {0}
+Differ (Register.Local a) (Register.Temp b) = Unit {0}
+Differ (Register.Local a) (Register.Local b) = Unit {0}
+
+pub differ : (arity : ℕ) (m : Made) (a b : Register) → Held m (regOf a) → Loose arity m b → Differ a b
+unfolding regOf
+differ arity m (Register.Temp a) (Register.Temp b) h f = λ e. apart (registersOf m) h f (sym e)
+differ arity m (Register.Temp a) (Register.Local b) h f = tt
+differ arity m (Register.Local a) (Register.Temp b) h f = tt
+differ arity m (Register.Local a) (Register.Local b) h f = tt
+
+pub record Gave (b : ℕ) (m₀ m : Made) (r : Register) (m' : Made) : Type 0 where
   pub level : count m' ≡ count m
   pub kept : Kept (count m) m m'
   pub grown : Grown b m₀ m'
+  pub still : (x : Register) → Differ r x → Had m x → Had m' x
 
-pub give-holds : (arity : ℕ) {b : ℕ} {m₀ m : Made} (r : Register) → Loose arity m₀ r → Sound (registersOf m) → b ≤ count m → Grown b m₀ m →
-    Holds (λ u m'. Gave b m₀ m m') (freeTemp r m)
+pub give-holds : (arity : ℕ) {b : ℕ} {m₀ m : Made} (r : Register) → Loose arity m₀ r → Had m r → Sound (registersOf m) → b ≤ count m → Grown b m₀ m →
+    Holds (λ u m'. Gave b m₀ m r m') (freeTemp r m)
 unfolding freeTemp
-give-holds arity {b} {m₀} {m} (Register.Temp r) l sound le g =
-    let k : Gives (registersOf m) r (freed (registersOf m) (Register.Temp r)) = free-temporary (registersOf m) r sound in
+give-holds arity {b} {m₀} {m} (Register.Temp r) l h sound le g =
+    let k : Gives (registersOf m) r (freed (registersOf m) (Register.Temp r)) = free-temporary (registersOf m) r sound h in
     fine (record {
       level = refl;
       kept = kept-registers _ m (freed (registersOf m) (Register.Temp r));
       grown = record {
         kept = kept-trans le (g .kept) (kept-registers _ m (freed (registersOf m) (Register.Temp r)));
         held = λ q x. k .others q (apart (registersOf m₀) x l) ∙ g .held q x;
-        sound = λ x. freed-sound (registersOf m) (Register.Temp r) (g .sound x);
+        sound = λ x. give-sound k (g .sound x);
       };
+      still = λ x. still k x;
     })
-give-holds arity {b} {m₀} {m} (Register.Local r) l sound le g =
+  where
+    still : Gives (registersOf m) r (freed (registersOf m) (Register.Temp r)) → (x : Register) → Differ (Register.Temp r) x → Had m x →
+        Had (withRegisters (freed (registersOf m) (Register.Temp r)) m) x
+    still k (Register.Temp q) d y = k .others q d ∙ y
+    still k (Register.Local q) d y = tt
+give-holds arity {b} {m₀} {m} (Register.Local r) l h sound le g =
     fine (record {
       level = refl;
       kept = kept-registers _ m (freed (registersOf m) (Register.Local r));
@@ -212,7 +244,12 @@ give-holds arity {b} {m₀} {m} (Register.Local r) l sound le g =
         held = λ q x. rw (free-local (registersOf m) r) (g .held q x);
         sound = λ x. rw (free-local (registersOf m) r) (g .sound x);
       };
+      still = λ x. still x;
     })
+  where
+    still : (x : Register) → Differ (Register.Local r) x → Had m x → Had (withRegisters (freed (registersOf m) (Register.Local r)) m) x
+    still (Register.Temp q) d y = rw (free-local (registersOf m) r) y
+    still (Register.Local q) d y = tt
 
 -- ---- an instruction is emitted
 
@@ -291,36 +328,44 @@ set-capacity : (ws : List ℕ) (i v : ℕ) → capacity instructionWidth (set ws
 unfolding capacity
 set-capacity ws i v = rw (length-set ws i v)
 
+-- the words with another offset
+module _ (j o : ℕ) (m : Made) (r : Room m) (h : j < count m) where
+  pub kind-is : getD (recordOf m j) 0 0 ≡ getD (m .code) (instructionWidth * j) 0
+  kind-is = record-word instructionWidth (m .code) j 0 (omega arith) ∙ ap (λ n. getD (m .code) n 0) (add-zero (instructionWidth * j))
+
+  pub offset-there : recordAt instructionWidth (withOffset (m .code) j o) j ≡ aim o (recordOf m j)
+  unfolding withOffset aim
+  offset-there =
+      rw kind-is
+      (record-set-same (m .code) j (offsetWord (getD (m .code) (instructionWidth * j) 0)) o (offset-small _)
+      (room instructionWidth (m .code) j (omega (arith, r .inside))))
+
+  pub offset-others : (i : ℕ) → i ≢ j → recordAt instructionWidth (withOffset (m .code) j o) i ≡ recordOf m i
+  unfolding withOffset
+  offset-others i n = record-set-other (m .code) j (offsetWord (getD (m .code) (instructionWidth * j) 0)) o (offset-small _) i n
+
+  pub offset-capacity : capacity instructionWidth (withOffset (m .code) j o) ≡ capacity instructionWidth (m .code)
+  unfolding withOffset
+  offset-capacity = set-capacity (m .code) (instructionWidth * j + offsetWord (getD (m .code) (instructionWidth * j) 0)) o
+
 pub patch-holds : (j : ℕ) (m : Made) → Room m → j < count m → Holds (λ u m'. Patched j m m') (patchJump j m)
-unfolding patchJump withOffset aim
+unfolding patchJump
 patch-holds j m r h = fine good
   where
-    kind : ℕ
-    kind = getD (m .code) (instructionWidth * j) 0
-
-    kind-is : getD (recordOf m j) 0 0 ≡ getD (m .code) (instructionWidth * j) 0
-    kind-is = record-word instructionWidth (m .code) j 0 (omega arith) ∙ ap (λ n. getD (m .code) n 0) (add-zero (instructionWidth * j))
-
-    fit : instructionWidth * j + instructionWidth ≤ length (m .code)
-    fit = room instructionWidth (m .code) j (omega (arith, r .inside))
-
     m' : Made
-    m' = withCode (set (m .code) (instructionWidth * j + offsetWord (getD (m .code) (instructionWidth * j) 0)) (count m - j)) (count m) m
-
-    elsewhere : (i : ℕ) → i ≢ j → recordOf m' i ≡ recordOf m i
-    elsewhere i n = record-set-other (m .code) j (offsetWord (getD (m .code) (instructionWidth * j) 0)) (count m - j) (offset-small _) i n
+    m' = withCode (withOffset (m .code) j (count m - j)) (count m) m
 
     good : Patched j m m'
     good = record {
       level = refl;
-      there = rw kind-is (record-set-same (m .code) j (offsetWord (getD (m .code) (instructionWidth * j) 0)) (count m - j) (offset-small _) fit);
-      others = elsewhere;
+      there = offset-there j (count m - j) m r h;
+      others = offset-others j (count m - j) m r h;
       grown = record {
         kept = record {
           more = le-refl _;
-          same = λ i l. elsewhere i (ne-of-lt l);
+          same = λ i l. offset-others j (count m - j) m r h i (ne-of-lt l);
           consts = λ k ws x. record { inside = x .inside; there = x .there; whole = x .whole };
-          room = λ x. record { inside = rw (set-capacity (m .code) (instructionWidth * j + offsetWord (getD (m .code) (instructionWidth * j) 0)) (count m - j)) (x .inside); small = x .small };
+          room = λ x. record { inside = rw (offset-capacity j (count m - j) m r h) (x .inside); small = x .small };
           marks = refl;
         };
         held = λ q x. x;

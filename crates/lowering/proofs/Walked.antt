@@ -15,7 +15,8 @@ use Rattle.diagnostics.specs.declared.Refusal.{Refusal}
 use Rattle.environment.specs.declared.Register.{Register}
 use Rattle.environment.specs.declared.Found.{Found}
 use Rattle.environment.specs.Environment.{lookup}
-use Rattle.environment.proofs.Laws.{Sound, Last, Undeclared, lookup-found, lookup-refused}
+use Rattle.environment.specs.Laws.{Sound, Last, Undeclared}
+use Rattle.environment.proofs.Laws.{lookup-found, lookup-refused}
 use Rattle.syntax.specs.declared.ast.Node.{Node}
 use Rattle.syntax.specs.declared.ops.BinaryOp.{BinaryOp}
 use Rattle.syntax.specs.declared.ops.Comparison.{Comparison}
@@ -31,9 +32,10 @@ use Rattle.lowering.specs.Steps.{destination, freeTemp, emit, loadConsta
 use Rattle.lowering.specs.Operators.{binaryRR, binaryRK, binaryKR, unary, comparison, jumpRR, jumpRK, jumpKR, jumpIf}
 use Rattle.lowering.specs.Lower.{Source, register, constant, source, sameRegister, nameOf, materialized, lowerMaterializing, moved, named, binarySources, lowerArguments, storeNamed, storeKeyed, lowerEntry, lowerEntries, lowerElse, lowerTail, lowerNode, tested, fusedSources, fused, jumpNode}
 use Rattle.lowering.specs.Meaning.{Named, first, later, Reaches}
+use Rattle.lowering.specs.Fields.{Narrow}
+use Rattle.lowering.specs.Trace.{Own, Owned, registersOf, instructionsOf, constantsOf, kindAt, JumpKind, constantOfNode}
 use Rattle.lowering.proofs.Checked.{Fits}
-use Rattle.lowering.proofs.Trace.{Own, Owned, registersOf, instructionsOf, constantsOf, kindAt, JumpKind, Narrow, constantOfNode}
-use Rattle.lowering.proofs.Good.{Good, chain, done, stopped, relax, Kept, kept-refl, kept-trans, Ready, Loose, ready-later, ready-small, loose-before, differ, Spot, Target, target-later, spot-before, Settled, destination-good, give-good, emit-good, store-good, patch-good, mark-good}
+use Rattle.lowering.proofs.Good.{GiveBack, Good, chain, done, stopped, relax, Kept, kept-refl, kept-trans, Ready, Loose, ready-later, ready-small, loose-before, differ, Spot, Target, target-later, spot-before, Settled, destination-good, give-good, emit-good, store-good, patch-good, mark-good}
 use Rattle.lowering.proofs.Fields.{narrow-RR, narrow-RK, narrow-KR, narrow-unary, narrow-jump-RR, narrow-jump-RK, narrow-jump-KR, narrow-jump-if, kind-jump-RR, kind-jump-RK, kind-jump-KR, kind-jump-if}
 
 -- ---- the nodes that a node names, by their places in the list
@@ -127,7 +129,7 @@ module _ (t : Tree) (root : ℕ) where
   unfolding source
   settled-lowered s = record { kept = s .kept; answer = (s .spot, s .ready) }
 
-  load-good : (c : Operand) → Owned t root c → (m : Made) (dest : Dest) → Target m dest → Good t root (Settled m dest) (loadConstant c dest) m
+  load-good : (c : Operand) → Owned t root c → (m : Made) (dest : Dest) → Target m dest → Good t root (Settled m dest) (λ F. loadConstant c dest) m
   unfolding loadConstant wordsOf
   load-good c o m dest g =
       chain (destination-good m dest g) (λ d m1 a.
@@ -136,22 +138,22 @@ module _ (t : Tree) (root : ℕ) where
       let k3 : Kept m1 m3 = kept-trans (b .kept) (e .kept) in
       done d (record { kept = kept-trans (a .kept) k3; spot = a .spot; ready = ready-later d k3 (a .ready) }))))
 
-  materialized-good : (x : Source) {m n : Made} (dest : Dest) → Kept m n → Target m dest → Answer m dest n x → Good t root (Settled m dest) (materialized x dest) n
+  materialized-good : (x : Source) {m n : Made} (dest : Dest) → Kept m n → Target m dest → Answer m dest n x → Good t root (Settled m dest) (λ F. materialized x dest) n
   unfolding materialized
   materialized-good (register r) dest k g h = done r (record { kept = k; spot = h .0; ready = h .1 })
   materialized-good (constant c) {m} {n} dest k g h =
       relax (load-good c h n dest (target-later dest k g))
       (λ r o s. record { kept = kept-trans k (s .kept); spot = spot-before dest r k (s .spot); ready = s .ready })
 
-  pub materializing-good : (own : Dest → Walk Operand) (dest : Dest) (m : Made) → Target m dest → Good t root (Lowered m dest) (own dest) m →
-      Good t root (Settled m dest) (lowerMaterializing own dest) m
+  pub materializing-good : (own : GiveBack → Dest → Walk Operand) (dest : Dest) (m : Made) → Target m dest → Good t root (Lowered m dest) (λ F. own F dest) m →
+      Good t root (Settled m dest) (λ F. lowerMaterializing (own F) dest) m
   unfolding lowerMaterializing
   materializing-good own dest m g h = chain h (λ x n l. materialized-good (source x) dest (l .kept) g (l .answer))
 
   -- one instruction behind a destination, and the registers that it used given back
   one-good : (i : Instruction) {m m0 ma mb : Made} {dest : Dest} (d src : Register) → Settled m dest d m0 → Kept m0 ma → Loose m0 src → Ready ma src → Kept ma mb →
       Sound (registersOf m) → Narrow (constantsOf mb) (wordsOf i) →
-      Good t root (Lowered m dest) (emit i >> (freeTemp src >> ret (Operand.Register d))) mb
+      Good t root (Lowered m dest) (λ F. emit i >> (F src >> ret (Operand.Register d))) mb
   one-good i {m} {m0} {ma} {mb} {dest} d src s ka l r kb sound fits =
       chain (emit-good i mb fits) (λ p mc e.
       let kc : Kept ma mc = kept-trans kb (e .kept) in
@@ -161,7 +163,7 @@ module _ (t : Tree) (root : ℕ) where
 
   two-good : (i : Instruction) {m m0 ma mb : Made} {dest : Dest} (d src1 src2 : Register) → Settled m dest d m0 → Kept m0 ma → Loose m0 src1 → Ready ma src1 →
       Kept ma mb → Loose ma src2 → Ready mb src2 → Sound (registersOf m) → Narrow (constantsOf mb) (wordsOf i) →
-      Good t root (Lowered m dest) (emit i >> (freeTemp src1 >> (freeTemp src2 >> ret (Operand.Register d)))) mb
+      Good t root (Lowered m dest) (λ F. emit i >> (F src1 >> (F src2 >> ret (Operand.Register d)))) mb
   two-good i {m} {m0} {ma} {mb} {dest} d src1 src2 s ka l1 r1 kb l2 r2 sound fits =
       chain (emit-good i mb fits) (λ p mc e.
       let kc : Kept ma mc = kept-trans kb (e .kept) in
@@ -173,41 +175,41 @@ module _ (t : Tree) (root : ℕ) where
 
   -- ---- a name
 
-  moved-good : (r : ℕ) → r < 256 → (dest : Dest) (m : Made) → Target m dest → Good t root (Lowered m dest) (moved t (Register.Local r) dest) m
+  moved-good : (r : ℕ) → r < 256 → (dest : Dest) (m : Made) → Target m dest → Good t root (Lowered m dest) (λ F. moved t (Register.Local r) dest) m
   unfolding moved source wordsOf regOf
   moved-good r h Dest.Any m g = done (Operand.Register (Register.Local r)) (record { kept = kept-refl m; answer = (tt, h) })
   moved-good r h (Dest.To d) m g = go (sameRegister d (Register.Local r))
     where
       go : (b : Bool) → Good t root (Lowered m (Dest.To d))
-          (cond b (ret (Operand.Register d)) (emit (Instruction.Move (regOf d) (regOf (Register.Local r))) >> ret (Operand.Register d))) m
+          (λ F. cond b (ret (Operand.Register d)) (emit (Instruction.Move (regOf d) (regOf (Register.Local r))) >> ret (Operand.Register d))) m
       go true = done (Operand.Register d) (record { kept = kept-refl m; answer = (refl, g) })
       go false =
           chain (emit-good (Instruction.Move (regOf d) (regOf (Register.Local r))) m (ready-small m d g, h, omega arith)) (λ p n e.
           done (Operand.Register d) (record { kept = e .kept; answer = (refl, ready-later d (e .kept) g) }))
 
   named-good : (i symbol : ℕ) → Reaches t root i → node t i ≡ Node.Identifier symbol → length (t .names) ≤ 256 → (dest : Dest) (m : Made) → Target m dest →
-      Good t root (Lowered m dest) (named t i (lookup (t .names) (length (t .names)) symbol) dest) m
+      Good t root (Lowered m dest) (λ F. named t i (lookup (t .names) (length (t .names)) symbol) dest) m
   unfolding named
   named-good i symbol reached e few dest m g = go (lookup (t .names) (length (t .names)) symbol) refl
     where
-      go : (f : Found) → lookup (t .names) (length (t .names)) symbol ≡ f → Good t root (Lowered m dest) (named t i f dest) m
+      go : (f : Found) → lookup (t .names) (length (t .names)) symbol ≡ f → Good t root (Lowered m dest) (λ F. named t i f dest) m
       go (Found.At r) q =
           let k : Last (t .names) (length (t .names)) symbol r = lookup-found (t .names) (length (t .names)) symbol r q in
-          subst (λ x. Good t root (Lowered m dest) (moved t x dest) m) (sym (k .local)) (moved-good (k .index) (lt-of-lt-of-le (k .in-range) few) dest m g)
+          subst (λ x. Good t root (Lowered m dest) (λ F. moved t x dest) m) (sym (k .local)) (moved-good (k .index) (lt-of-lt-of-le (k .in-range) few) dest m g)
       go (Found.Refused refusal) q =
           let k : Undeclared (t .names) (length (t .names)) symbol refusal = lookup-refused (t .names) (length (t .names)) symbol refusal q in
-          subst (λ x. Good t root (Lowered m dest) (λ y. stops (error x i (spanStart t i) (spanEnd t i)) y) m) (sym (k .reason))
+          subst (λ x. Good t root (Lowered m dest) (λ F y. stops (error x i (spanStart t i) (spanEnd t i)) y) m) (sym (k .reason))
           (stopped (error Refusal.Undeclared i (spanStart t i) (spanEnd t i)) (Own.undeclared reached e (k .none)))
 
   -- ---- by walks on the children that run
-  module _ (E : ℕ → Dest → Walk Operand) (P : ℕ → Type 0) (reach : (i : ℕ) → P i → Reaches t root i)
-      (good : (i : ℕ) → P i → (dest : Dest) (m : Made) → Sound (registersOf m) → Target m dest → Good t root (Lowered m dest) (E i dest) m) where
-    child-good : (i : ℕ) → P i → (dest : Dest) (m : Made) → Sound (registersOf m) → Target m dest → Good t root (Settled m dest) (lowerMaterializing (E i) dest) m
-    child-good i p dest m s g = materializing-good (E i) dest m g (good i p dest m s g)
+  module _ (E : GiveBack → ℕ → Dest → Walk Operand) (P : ℕ → Type 0) (reach : (i : ℕ) → P i → Reaches t root i)
+      (good : (i : ℕ) → P i → (dest : Dest) (m : Made) → Sound (registersOf m) → Target m dest → Good t root (Lowered m dest) (λ F. E F i dest) m) where
+    child-good : (i : ℕ) → P i → (dest : Dest) (m : Made) → Sound (registersOf m) → Target m dest → Good t root (Settled m dest) (λ F. lowerMaterializing (E F i) dest) m
+    child-good i p dest m s g = materializing-good (λ F. E F i) dest m g (good i p dest m s g)
 
     binary-good : (op : BinaryOp) (left right : ℕ) → P left → P right → {m m0 m1 m2 : Made} {dest : Dest} (d : Register) (x y : Source) → Settled m dest d m0 →
         Kept m0 m1 → Kept m1 m2 → Answer m0 Dest.Any m1 x → Answer m1 Dest.Any m2 y → Sound (registersOf m) →
-        Good t root (Lowered m dest) (binarySources t E op left right d x y) m2
+        Good t root (Lowered m dest) (λ F. binarySources F t (E F) op left right d x y) m2
     unfolding binarySources
     binary-good op left right pl pr {m} {m0} {m1} {m2} d (constant a) (constant b) s k1 k2 ha hb sound =
         let k02 : Kept m0 m2 = kept-trans k1 k2 in
@@ -233,7 +235,7 @@ module _ (t : Tree) (root : ℕ) where
     -- n arguments of the call at node i, from argument k on
     arguments-good : (i : ℕ) {callee start count : ℕ} → Reaches t root i → node t i ≡ Node.FunctionCall callee start count → count ≤ 255 →
         ((k : ℕ) → k < count → P (getD (t .list) (start + k) 0)) → (n k : ℕ) → k + n ≤ count → (m : Made) → Sound (registersOf m) →
-        Good t root (λ u o. Kept m o) (lowerArguments t E i start n k) m
+        Good t root (λ u o. Kept m o) (λ F. lowerArguments t (E F) i start n k) m
     unfolding lowerArguments
     arguments-good i reached e few p zero k h m s = done tt (kept-refl m)
     arguments-good i {start = start} reached e few p (suc n) k h m s =
@@ -243,7 +245,7 @@ module _ (t : Tree) (root : ℕ) where
         relax (arguments-good i reached e few p n (suc k) (omega arith) m2 (k2 .sound s)) (λ u o c. kept-trans k2 c)))
 
     named-entry : {m m1 : Made} (d : Register) (key : ℕ) (v : Source) → Ready m1 d → key < constantsOf m1 → Kept m m1 → Answer m Dest.Any m1 v →
-        Good t root (λ u o. Kept m o) (storeNamed t E d key v) m1
+        Good t root (λ u o. Kept m o) (λ F. storeNamed t (E F) d key v) m1
     unfolding storeNamed wordsOf
     named-entry {m} {m1} d key (constant v) r h k a =
         chain (store-good v m1 a) (λ value m2 q.
@@ -253,7 +255,7 @@ module _ (t : Tree) (root : ℕ) where
         relax (emit-good (Instruction.SetPropertyKR (regOf d) key (regOf v)) m1 (ready-small m1 d r, h, ready-small m1 v (a .1))) (λ p o e. kept-trans k (e .kept))
 
     keyed-entry : {m m1 m2 : Made} (d : Register) (x y : Source) → Ready m2 d → Kept m m1 → Kept m1 m2 → Answer m Dest.Any m1 x → Answer m1 Dest.Any m2 y →
-        Good t root (λ u o. Kept m o) (storeKeyed t E d x y) m2
+        Good t root (λ u o. Kept m o) (λ F. storeKeyed t (E F) d x y) m2
     unfolding storeKeyed wordsOf
     keyed-entry {m} {m1} {m2} d (register key) (register v) r k1 k2 a b =
         relax (emit-good (Instruction.SetProperty (regOf d) (regOf key) (regOf v)) m2 (ready-small m2 d r, ready-small m1 key (a .1), ready-small m2 v (b .1)))
@@ -280,7 +282,7 @@ module _ (t : Tree) (root : ℕ) where
         P (getD (t .list) (start + 2 * k) 0) →
         (getD (t .list) (start + 2 * k + 1) 0 ≢ absent → P (getD (t .list) (start + 2 * k + 1) 0)) → (d : Register) (m : Made) → Sound (registersOf m) → Ready m d →
         Good t root (λ u o. Kept m o)
-        (lowerEntry t E d (getD (t .list) (start + 2 * k) 0) (getD (t .list) (start + 2 * k + 1) 0) (nameOf (node t (getD (t .list) (start + 2 * k) 0)))) m
+        (λ F. lowerEntry t (E F) d (getD (t .list) (start + 2 * k) 0) (getD (t .list) (start + 2 * k + 1) 0) (nameOf (node t (getD (t .list) (start + 2 * k) 0)))) m
     unfolding lowerEntry wordsOf
     entry-good i {start} {count} k reached e h pk pv d m s r = go (nameOf (node t key)) refl (eqb value absent) refl
       where
@@ -290,7 +292,7 @@ module _ (t : Tree) (root : ℕ) where
         value : ℕ
         value = getD (t .list) (start + 2 * k + 1) 0
 
-        go : (o : Option ℕ) → nameOf (node t key) ≡ o → (b : Bool) → eqb value absent ≡ b → Good t root (λ u o. Kept m o) (lowerEntry t E d key value o) m
+        go : (o : Option ℕ) → nameOf (node t key) ≡ o → (b : Bool) → eqb value absent ≡ b → Good t root (λ u o. Kept m o) (λ F. lowerEntry t (E F) d key value o) m
         go (some name) q true z =
             rw z
             (chain (child-good key pk Dest.Any m s tt) (λ src m1 a.
@@ -316,7 +318,7 @@ module _ (t : Tree) (root : ℕ) where
         ((k : ℕ) → k < count → P (getD (t .list) (start + 2 * k) 0)) →
         ((k : ℕ) → k < count → getD (t .list) (start + 2 * k + 1) 0 ≢ absent → P (getD (t .list) (start + 2 * k + 1) 0)) →
         (d : Register) (n k : ℕ) → k + n ≤ count → (m : Made) → Sound (registersOf m) → Ready m d →
-        Good t root (λ u o. Kept m o) (lowerEntries t E d start n k) m
+        Good t root (λ u o. Kept m o) (λ F. lowerEntries t (E F) d start n k) m
     unfolding lowerEntries
     entries-good i reached e pk pv d zero k h m s r = done tt (kept-refl m)
     entries-good i reached e pk pv d (suc n) k h m s r =
@@ -324,22 +326,22 @@ module _ (t : Tree) (root : ℕ) where
         relax (entries-good i reached e pk pv d n (suc k) (omega arith) m1 (k1 .sound s) (ready-later d k1 r)) (λ u o c. kept-trans k1 c))
 
     else-good : (i c a branch : ℕ) → Reaches t root i → node t i ≡ Node.If c a branch → (branch ≢ absent → P branch) → (d : Register) (m : Made) →
-        Sound (registersOf m) → Ready m d → Good t root (Settled m (Dest.To d)) (lowerElse t E i branch d) m
+        Sound (registersOf m) → Ready m d → Good t root (Settled m (Dest.To d)) (λ F. lowerElse t (E F) i branch d) m
     unfolding lowerElse
     else-good i c a branch reached e p d m s r = go (eqb branch absent) refl
       where
         go : (b : Bool) → eqb branch absent ≡ b →
-            Good t root (Settled m (Dest.To d)) (cond b (λ y. stops (error Refusal.Else i (spanStart t i) (spanEnd t i)) y) (lowerMaterializing (E branch) (Dest.To d))) m
+            Good t root (Settled m (Dest.To d)) (λ F. cond b (λ y. stops (error Refusal.Else i (spanStart t i) (spanEnd t i)) y) (lowerMaterializing (E F branch) (Dest.To d))) m
         go true z = stopped (error Refusal.Else i (spanStart t i) (spanEnd t i)) (Own.no-else reached (e ∙ ap (λ x. Node.If c a x) (eqb-true branch absent z)))
         go false z = child-good branch (p (eqb-false branch absent z)) (Dest.To d) m s r
 
     tail-good : (i tail : ℕ) → Reaches t root i → node t i ≡ Node.Block tail → (tail ≢ absent → P tail) → (d : Register) (m : Made) →
-        Sound (registersOf m) → Ready m d → Good t root (Settled m (Dest.To d)) (lowerTail t E tail d) m
+        Sound (registersOf m) → Ready m d → Good t root (Settled m (Dest.To d)) (λ F. lowerTail t (E F) tail d) m
     unfolding lowerTail constantOfNode
     tail-good i tail reached e p d m s r = go (eqb tail absent) refl
       where
         go : (b : Bool) → eqb tail absent ≡ b →
-            Good t root (Settled m (Dest.To d)) (cond b (loadConstant Operand.Nil (Dest.To d)) (lowerMaterializing (E tail) (Dest.To d))) m
+            Good t root (Settled m (Dest.To d)) (λ F. cond b (loadConstant Operand.Nil (Dest.To d)) (lowerMaterializing (E F tail) (Dest.To d))) m
         go true z = load-good Operand.Nil (record { owner = i; reached = reached; its = ap constantOfNode (sym e) }) m (Dest.To d) r
         go false z = child-good tail (p (eqb-false tail absent z)) (Dest.To d) m s r
 
@@ -347,8 +349,8 @@ module _ (t : Tree) (root : ℕ) where
     logical-good : (jump : ℕ → Instruction) → ((top a : ℕ) → a < 256 → Narrow top (wordsOf (jump a))) → ((a : ℕ) → JumpKind (getD (wordsOf (jump a)) 0 0)) →
         (left right : ℕ) → P left → P right → (dest : Dest) (m : Made) → Sound (registersOf m) → Target m dest →
         Good t root (Lowered m dest)
-        (destination dest >>= (λ d. lowerMaterializing (E left) (Dest.To d) >>= (λ src. emit (jump (regOf src)) >>= (λ j.
-        lowerMaterializing (E right) (Dest.To d) >> (patchJump j >> ret (Operand.Register d)))))) m
+        (λ F. destination dest >>= (λ d. lowerMaterializing (E F left) (Dest.To d) >>= (λ src. emit (jump (regOf src)) >>= (λ j.
+        lowerMaterializing (E F right) (Dest.To d) >> (patchJump j >> ret (Operand.Register d)))))) m
     logical-good jump fits jumps left right pl pr dest m s g =
         chain (destination-good m dest g) (λ d m0 a.
         let s0 : Sound (registersOf m0) = a .kept .sound s in
@@ -362,7 +364,7 @@ module _ (t : Tree) (root : ℕ) where
         done (Operand.Register d) (settled-lowered (record { kept = kept-trans (a .kept) k4; spot = a .spot; ready = ready-later d k4 (a .ready) })))))))
 
     -- ---- a node
-    module _ (J : ℕ → Walk ℕ) (jumps : (i : ℕ) → P i → (m : Made) → Sound (registersOf m) → Good t root (Jumped m) (J i) m) (few : length (t .names) ≤ 256) where
+    module _ (J : GiveBack → ℕ → Walk ℕ) (jumps : (i : ℕ) → P i → (m : Made) → Sound (registersOf m) → Good t root (Jumped m) (λ F. J F i) m) (few : length (t .names) ≤ 256) where
       literal : {m : Made} {dest : Dest} (i : ℕ) (x c : Operand) → Reaches t root i → source x ≡ constant c → c ≡ constantOfNode (node t i) → Lowered m dest x m
       literal {m} {dest} i x c reached e q = record { kept = kept-refl m; answer = subst (λ y. Answer m dest m y) (sym e) (record { owner = i; reached = reached; its = q }) }
 
@@ -370,7 +372,7 @@ module _ (t : Tree) (root : ℕ) where
       single-good : (f : ℕ → ℕ → Instruction) → ((top d a : ℕ) → d < 256 → a < 256 → Narrow top (wordsOf (f d a))) → (x : ℕ) → P x →
           (dest : Dest) (m : Made) → Sound (registersOf m) → Target m dest →
           Good t root (Lowered m dest)
-          (destination dest >>= (λ d. lowerMaterializing (E x) Dest.Any >>= (λ src. emit (f (regOf d) (regOf src)) >> (freeTemp src >> ret (Operand.Register d))))) m
+          (λ F. destination dest >>= (λ d. lowerMaterializing (E F x) Dest.Any >>= (λ src. emit (f (regOf d) (regOf src)) >> (F src >> ret (Operand.Register d))))) m
       single-good f fits x p dest m s g =
           chain (destination-good m dest g) (λ d m0 a.
           chain (child-good x p Dest.Any m0 (a .kept .sound s) tt) (λ src m1 b.
@@ -378,7 +380,7 @@ module _ (t : Tree) (root : ℕ) where
           (fits (constantsOf m1) (regOf d) (regOf src) (ready-small m0 d (a .ready)) (ready-small m1 src (b .ready)))))
 
       if-good : (i c a branch : ℕ) → Reaches t root i → node t i ≡ Node.If c a branch → P c → P a → (branch ≢ absent → P branch) →
-          (dest : Dest) (m : Made) → Sound (registersOf m) → Target m dest → Good t root (Lowered m dest) (lowerNode t E J i (Node.If c a branch) dest) m
+          (dest : Dest) (m : Made) → Sound (registersOf m) → Target m dest → Good t root (Lowered m dest) (λ F. lowerNode F t (E F) (J F) i (Node.If c a branch) dest) m
       unfolding lowerNode wordsOf
       if-good i c a branch reached e pc pa pb dest m s g =
           chain (jumps c pc m s) (λ j m1 jm.
@@ -405,7 +407,7 @@ module _ (t : Tree) (root : ℕ) where
 
       call-good : (i callee start count : ℕ) → Reaches t root i → node t i ≡ Node.FunctionCall callee start count → count ≤ 255 → P callee →
           ((k : ℕ) → k < count → P (getD (t .list) (start + k) 0)) → (dest : Dest) (m : Made) → Sound (registersOf m) → Target m dest →
-          Good t root (Lowered m dest) (lowerNode t E J i (Node.FunctionCall callee start count) dest) m
+          Good t root (Lowered m dest) (λ F. lowerNode F t (E F) (J F) i (Node.FunctionCall callee start count) dest) m
       unfolding lowerNode wordsOf
       call-good i callee start count reached e small pc pa dest m s g =
           chain (arguments-good i reached e small pa count 0 (omega arith) m s) (λ u m1 k1.
@@ -413,7 +415,7 @@ module _ (t : Tree) (root : ℕ) where
           (λ x n l. record { kept = kept-trans k1 (l .kept); answer = answer-before n dest (source x) k1 (l .answer) }))
 
       pub node-good : (i : ℕ) (n : Node) → Reaches t root i → node t i ≡ n → Fits (length (t .list)) n → ((c : ℕ) → Named c (children (t .list) n) → P c) →
-          (dest : Dest) (m : Made) → Sound (registersOf m) → Target m dest → Good t root (Lowered m dest) (lowerNode t E J i n dest) m
+          (dest : Dest) (m : Made) → Sound (registersOf m) → Target m dest → Good t root (Lowered m dest) (λ F. lowerNode F t (E F) (J F) i n dest) m
       unfolding lowerNode children constantOfNode source wordsOf
       node-good i (Node.Number low high) reached e f p dest m s g = done _ (literal i _ _ reached refl (ap constantOfNode (sym e)))
       node-good i (Node.String symbol) reached e f p dest m s g = done _ (literal i _ _ reached refl (ap constantOfNode (sym e)))
@@ -482,17 +484,17 @@ module _ (t : Tree) (root : ℕ) where
               (named-value (take (2 * count) (drop start (t .list))) k (omega (arith, size)) (λ w. z (sym same ∙ w)))
 
     -- ---- a condition
-    tested-good : (sense : Bool) (own : Dest → Walk Operand) {m₀ : Made} (m : Made) → Kept m₀ m → Good t root (Lowered m Dest.Any) (own Dest.Any) m →
-        Good t root (Jumped m₀) (tested t E sense own) m
+    tested-good : (sense : Bool) (own : GiveBack → Dest → Walk Operand) {m₀ : Made} (m : Made) → Kept m₀ m → Good t root (Lowered m Dest.Any) (λ F. own F Dest.Any) m →
+        Good t root (Jumped m₀) (λ F. tested t (E F) sense (own F)) m
     unfolding tested
     tested-good sense own {m₀} m k h =
         chain (materializing-good own Dest.Any m tt h) (λ src n a.
         relax (emit-good (jumpIf sense (regOf src)) n (narrow-jump-if (constantsOf n) (regOf src) (ready-small n src (a .ready)) sense))
         (λ j o e. record { kept = kept-trans k (kept-trans (a .kept) (e .kept)); inside = e .inside; kind = rw (e .kind) (kind-jump-if (regOf src) sense) }))
 
-    fused-sources : (sense : Bool) (own : Dest → Walk Operand) (c : Comparison) (x y : Source) {m₀ m1 m2 : Made} → Kept m₀ m1 → Kept m1 m2 →
-        Answer m₀ Dest.Any m1 x → Answer m1 Dest.Any m2 y → Good t root (Lowered m2 Dest.Any) (own Dest.Any) m2 →
-        Good t root (Jumped m₀) (fusedSources t E sense own c x y) m2
+    fused-sources : (sense : Bool) (own : GiveBack → Dest → Walk Operand) (c : Comparison) (x y : Source) {m₀ m1 m2 : Made} → Kept m₀ m1 → Kept m1 m2 →
+        Answer m₀ Dest.Any m1 x → Answer m1 Dest.Any m2 y → Good t root (Lowered m2 Dest.Any) (λ F. own F Dest.Any) m2 →
+        Good t root (Jumped m₀) (λ F. fusedSources t (E F) sense (own F) c x y) m2
     unfolding fusedSources
     fused-sources sense own c (register a) (register b) {m₀} {m1} {m2} k1 k2 ha hb h =
         relax (emit-good (jumpRR sense c (regOf a) (regOf b)) m2
@@ -509,9 +511,9 @@ module _ (t : Tree) (root : ℕ) where
     fused-sources sense own c (constant a) (constant b) {m2 = m2} k1 k2 ha hb h = tested-good sense own m2 (kept-trans k1 k2) h
 
     -- own: the condition's own lowering
-    module _ (sense : Bool) (own : Dest → Walk Operand) (owns : (m : Made) → Sound (registersOf m) → Good t root (Lowered m Dest.Any) (own Dest.Any) m) where
+    module _ (sense : Bool) (own : GiveBack → Dest → Walk Operand) (owns : (m : Made) → Sound (registersOf m) → Good t root (Lowered m Dest.Any) (λ F. own F Dest.Any) m) where
       fused-good : (c : Option Comparison) (left right : ℕ) → P left → P right → (m : Made) → Sound (registersOf m) →
-          Good t root (Jumped m) (fused t E sense own c left right) m
+          Good t root (Jumped m) (λ F. fused t (E F) sense (own F) c left right) m
       unfolding fused
       fused-good none left right pl pr m s = tested-good sense own m (kept-refl m) (owns m s)
       fused-good (some c) left right pl pr m s =
@@ -521,7 +523,7 @@ module _ (t : Tree) (root : ℕ) where
           fused-sources sense own c (source x) (source y) (a .kept) (b .kept) (a .answer) (b .answer) (owns m2 (b .kept .sound s1))))
 
       pub jump-good : (n : Node) → ((c : ℕ) → Named c (children (t .list) n) → P c) → (m : Made) → Sound (registersOf m) →
-          Good t root (Jumped m) (jumpNode t E sense own n) m
+          Good t root (Jumped m) (λ F. jumpNode t (E F) sense (own F) n) m
       unfolding jumpNode children
       jump-good (Node.Number low high) p m s = tested-good sense own m (kept-refl m) (owns m s)
       jump-good (Node.String symbol) p m s = tested-good sense own m (kept-refl m) (owns m s)

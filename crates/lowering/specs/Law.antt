@@ -11,7 +11,8 @@ use Rattle.runtime.specs.Instruction.{instructionWidth}
 use Rattle.runtime.specs.Value.{constantWidth}
 use Rattle.lowering.specs.Tree.{Tree, treeOf, node}
 use Rattle.lowering.specs.Walk.{Made, ends}
-use Rattle.lowering.specs.Result.{Lowered, begin, lowerRoot, lower}
+use Rattle.lowering.specs.Steps.{freeTemp}
+use Rattle.lowering.specs.Result.{Lowered, begin, lowerRoot, lower, result, leaves}
 use Rattle.lowering.specs.Meaning.{Operators, Hypotheses, Worth, worth, fails, undefined, worthAt, OrderPremise, Reaches, Plain, sizeAt}
 use Rattle.lowering.specs.Machine.{fetch, constantAt, returned, failed, lost, Registers, Now, at, ended, after}
 
@@ -29,7 +30,7 @@ pub record Accepted : Type 0 where
   -- the answer, and what lowering leaves: the words of the buffers, and how many instructions and constants they hold
   pub answer : ℕ
   pub left : Made
-  pub accepted : lowerRoot tree 0 root (begin code constants marks pooled (length (tree .names))) ≡ ends answer left
+  pub accepted : lowerRoot freeTemp tree 0 root (begin code constants marks pooled (length (tree .names))) ≡ ends answer left
 
 abbrev pub arity : Accepted → ℕ
 arity a = length (a .tree .names)
@@ -138,3 +139,8 @@ RunningLaw = (nodes list names : List ℕ) (root : ℕ) (code constants marks : 
     ((i : ℕ) → Reaches (treeOf nodes list names) root i → Plain (node (treeOf nodes list names) i)) →
     lower nodes root 0 list names code constants marks .result .number ≡ 0 →
     LawOf (treeOf nodes list names) root (lower nodes root 0 list names code constants marks)
+
+module _ (a : Accepted) where
+  -- what an accepted walk leaves, as `lower` shows it
+  abbrev pub alone : Lowered
+  alone = leaves (result 0 (a .answer) 0 0 (instructions a) (a .left .state .constants) (a .left .state .registers .«frame_size») (arity a)) (a .left)

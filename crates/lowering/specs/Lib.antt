@@ -1,5 +1,6 @@
 pub mod Tree
 pub mod Questions
+pub mod Checked
 pub mod Walk
 pub mod Steps
 pub mod Operators
@@ -8,4 +9,15 @@ pub mod Result
 pub mod Meaning
 pub mod Machine
 pub mod Law
+pub mod Conditions
 pub mod Reach
+pub mod Meets
+pub mod Fields
+pub mod Trace
+pub mod Answers
+pub mod Frame
+pub mod Pool
+pub mod Cases
+pub mod Instance
+pub mod Examples
+pub mod Smallest

@@ -22,7 +22,7 @@ use Rattle.runtime.specs.Value.{numberOf}
 use Rattle.lowering.specs.declared.Dest.{Dest}
 use Rattle.lowering.specs.Tree.{Tree, node, spanStart, spanEnd}
 use Rattle.lowering.specs.Walk.{Made, Outcome, ends, stops, Walk, bind, _>>=_, _>>_, ret, error}
-use Rattle.lowering.specs.Steps.{freeTemp, destination, emit, store, loadConstant, patchJump, mark}
+use Rattle.lowering.specs.Steps.{destination, emit, store, loadConstant, patchJump, mark}
 use Rattle.lowering.specs.Operators.{binaryRR, binaryRK, binaryKR, unary, comparison, jumpRR, jumpRK, jumpKR, jumpIf}
 
 -- where an operand is: in a register, or a constant that is not pooled yet
@@ -91,31 +91,6 @@ module _ (t : Tree) where
   named i (Found.Refused refusal) dest = refuse refusal i
 
   module _ (E : ℕ → Dest → Walk Operand) where
-    -- "then constants pooled, one instruction. Two literals are both loaded."
-    unfoldable pub binarySources : BinaryOp → ℕ → ℕ → Register → Source → Source → Walk Operand
-    binarySources operator left right d (constant a) (constant b) = do
-      src1 ← lowerMaterializing (E left) Dest.Any
-      src2 ← lowerMaterializing (E right) Dest.Any
-      emit (binaryRR operator (regOf d) (regOf src1) (regOf src2))
-      freeTemp src1
-      freeTemp src2
-      ret (Operand.Register d)
-    binarySources operator left right d (register src1) (constant b) = do
-      src2 ← store b
-      emit (binaryRK operator (regOf d) (regOf src1) src2)
-      freeTemp src1
-      ret (Operand.Register d)
-    binarySources operator left right d (constant a) (register src2) = do
-      src1 ← store a
-      emit (binaryKR operator (regOf d) src1 (regOf src2))
-      freeTemp src2
-      ret (Operand.Register d)
-    binarySources operator left right d (register src1) (register src2) = do
-      emit (binaryRR operator (regOf d) (regOf src1) (regOf src2))
-      freeTemp src1
-      freeTemp src2
-      ret (Operand.Register d)
-
     -- "argument i is aimed at local i and the last instruction so far is marked": n arguments from argument k on, of the call at node i
     unfoldable pub lowerArguments : ℕ → ℕ → ℕ → ℕ → Walk Unit
     lowerArguments i first zero k = ret tt
@@ -183,83 +158,6 @@ module _ (t : Tree) where
     unfoldable pub lowerTail : ℕ → Register → Walk Register
     lowerTail tail d = cond (eqb tail absent) (loadConstant Operand.Nil (Dest.To d)) (lowerMaterializing (E tail) (Dest.To d))
 
-    -- `lower_expression` of node i
-    unfoldable pub lowerNode : (ℕ → Walk ℕ) → ℕ → Node → Dest → Walk Operand
-    lowerNode J i (Node.Number low high) dest = ret (Operand.Number (numberOf low high))
-    lowerNode J i (Node.String symbol) dest = ret (Operand.String symbol)
-    lowerNode J i (Node.Boolean b) dest = ret (Operand.Boolean b)
-    lowerNode J i Node.Nil dest = ret Operand.Nil
-    lowerNode J i (Node.Identifier symbol) dest = named i (lookup (t .names) (length (t .names)) symbol) dest
-    -- "Binary: destination first, left, right"
-    lowerNode J i (Node.Binary operator left right) dest = do
-      d ← destination dest
-      a ← E left Dest.Any
-      b ← E right Dest.Any
-      binarySources operator left right d (source a) (source b)
-    lowerNode J i (Node.Unary operator operand) dest = do
-      d ← destination dest
-      src ← lowerMaterializing (E operand) Dest.Any
-      emit (unary operator (regOf d) (regOf src))
-      freeTemp src
-      ret (Operand.Register d)
-    lowerNode J i (Node.LogicalNot operand) dest = do
-      d ← destination dest
-      src ← lowerMaterializing (E operand) Dest.Any
-      emit (Instruction.Not (regOf d) (regOf src))
-      freeTemp src
-      ret (Operand.Register d)
-    -- "And, or: left into the destination, jump, right into the same."
-    lowerNode J i (Node.LogicalAnd left right) dest = do
-      d ← destination dest
-      src ← lowerMaterializing (E left) (Dest.To d)
-      jump ← emit (Instruction.JumpIfFalse (regOf src) 0)
-      lowerMaterializing (E right) (Dest.To d)
-      patchJump jump
-      ret (Operand.Register d)
-    lowerNode J i (Node.LogicalOr left right) dest = do
-      d ← destination dest
-      src ← lowerMaterializing (E left) (Dest.To d)
-      jump ← emit (Instruction.JumpIfTrue (regOf src) 0)
-      lowerMaterializing (E right) (Dest.To d)
-      patchJump jump
-      ret (Operand.Register d)
-    -- "If: condition, destination, then, jump, else. Registers of a condition stay held"
-    lowerNode J i (Node.If condition thenBranch elseBranch) dest = do
-      jump ← J condition
-      d ← destination dest
-      lowerMaterializing (E thenBranch) (Dest.To d)
-      end ← emit (Instruction.Jump 0)
-      patchJump jump
-      lowerElse i elseBranch d
-      patchJump end
-      ret (Operand.Register d)
-    lowerNode J i (Node.Block tail) dest = do
-      d ← destination dest
-      lowerTail tail d
-      ret (Operand.Register d)
-    -- "Call: [..] then destination, callee, Call."
-    lowerNode J i (Node.FunctionCall callee first count) dest = do
-      lowerArguments i first count 0
-      d ← destination dest
-      src ← lowerMaterializing (E callee) Dest.Any
-      emit (Instruction.Call (regOf d) (regOf src) count)
-      freeTemp src
-      ret (Operand.Register d)
-    -- "Property: destination, object, key pooled."
-    lowerNode J i (Node.PropertyAccess object property) dest = do
-      d ← destination dest
-      src ← lowerMaterializing (E object) Dest.Any
-      key ← store (Operand.String property)
-      emit (Instruction.GetPropertyK (regOf d) (regOf src) key)
-      freeTemp src
-      ret (Operand.Register d)
-    -- "Map: CreateMap, then entry by entry." The registers "of map entries" stay held.
-    lowerNode J i (Node.Map first count) dest = do
-      d ← destination dest
-      emit (Instruction.CreateMap (regOf d))
-      lowerEntries d first count 0
-      ret (Operand.Register d)
-
     -- "A comparison of two literals, and anything else, is materialized and tested": own is the condition's own `lower_expression`
     unfoldable pub tested : Bool → (Dest → Walk Operand) → Walk ℕ
     tested sense own = do
@@ -302,18 +200,124 @@ module _ (t : Tree) where
     jumpNode sense own (Node.PropertyAccess object property) = tested sense own
     jumpNode sense own (Node.Map first count) = tested sense own
 
+-- The clauses that give registers back, and the walk that they are of, by what gives one back: `freeTemp` in lowering, `freeHeld` in the law that
+-- each that is given back is held.
+module _ (giveBack : Register → Walk Unit) (t : Tree) where
+  module _ (E : ℕ → Dest → Walk Operand) where
+    -- "then constants pooled, one instruction. Two literals are both loaded."
+    unfoldable pub binarySources : BinaryOp → ℕ → ℕ → Register → Source → Source → Walk Operand
+    binarySources operator left right d (constant a) (constant b) = do
+      src1 ← lowerMaterializing (E left) Dest.Any
+      src2 ← lowerMaterializing (E right) Dest.Any
+      emit (binaryRR operator (regOf d) (regOf src1) (regOf src2))
+      giveBack src1
+      giveBack src2
+      ret (Operand.Register d)
+    binarySources operator left right d (register src1) (constant b) = do
+      src2 ← store b
+      emit (binaryRK operator (regOf d) (regOf src1) src2)
+      giveBack src1
+      ret (Operand.Register d)
+    binarySources operator left right d (constant a) (register src2) = do
+      src1 ← store a
+      emit (binaryKR operator (regOf d) src1 (regOf src2))
+      giveBack src2
+      ret (Operand.Register d)
+    binarySources operator left right d (register src1) (register src2) = do
+      emit (binaryRR operator (regOf d) (regOf src1) (regOf src2))
+      giveBack src1
+      giveBack src2
+      ret (Operand.Register d)
+
+    -- `lower_expression` of node i
+    unfoldable pub lowerNode : (ℕ → Walk ℕ) → ℕ → Node → Dest → Walk Operand
+    lowerNode J i (Node.Number low high) dest = ret (Operand.Number (numberOf low high))
+    lowerNode J i (Node.String symbol) dest = ret (Operand.String symbol)
+    lowerNode J i (Node.Boolean b) dest = ret (Operand.Boolean b)
+    lowerNode J i Node.Nil dest = ret Operand.Nil
+    lowerNode J i (Node.Identifier symbol) dest = named t i (lookup (t .names) (length (t .names)) symbol) dest
+    -- "Binary: destination first, left, right"
+    lowerNode J i (Node.Binary operator left right) dest = do
+      d ← destination dest
+      a ← E left Dest.Any
+      b ← E right Dest.Any
+      binarySources operator left right d (source a) (source b)
+    lowerNode J i (Node.Unary operator operand) dest = do
+      d ← destination dest
+      src ← lowerMaterializing (E operand) Dest.Any
+      emit (unary operator (regOf d) (regOf src))
+      giveBack src
+      ret (Operand.Register d)
+    lowerNode J i (Node.LogicalNot operand) dest = do
+      d ← destination dest
+      src ← lowerMaterializing (E operand) Dest.Any
+      emit (Instruction.Not (regOf d) (regOf src))
+      giveBack src
+      ret (Operand.Register d)
+    -- "And, or: left into the destination, jump, right into the same."
+    lowerNode J i (Node.LogicalAnd left right) dest = do
+      d ← destination dest
+      src ← lowerMaterializing (E left) (Dest.To d)
+      jump ← emit (Instruction.JumpIfFalse (regOf src) 0)
+      lowerMaterializing (E right) (Dest.To d)
+      patchJump jump
+      ret (Operand.Register d)
+    lowerNode J i (Node.LogicalOr left right) dest = do
+      d ← destination dest
+      src ← lowerMaterializing (E left) (Dest.To d)
+      jump ← emit (Instruction.JumpIfTrue (regOf src) 0)
+      lowerMaterializing (E right) (Dest.To d)
+      patchJump jump
+      ret (Operand.Register d)
+    -- "If: condition, destination, then, jump, else. Registers of a condition stay held"
+    lowerNode J i (Node.If condition thenBranch elseBranch) dest = do
+      jump ← J condition
+      d ← destination dest
+      lowerMaterializing (E thenBranch) (Dest.To d)
+      end ← emit (Instruction.Jump 0)
+      patchJump jump
+      lowerElse t E i elseBranch d
+      patchJump end
+      ret (Operand.Register d)
+    lowerNode J i (Node.Block tail) dest = do
+      d ← destination dest
+      lowerTail t E tail d
+      ret (Operand.Register d)
+    -- "Call: [..] then destination, callee, Call."
+    lowerNode J i (Node.FunctionCall callee first count) dest = do
+      lowerArguments t E i first count 0
+      d ← destination dest
+      src ← lowerMaterializing (E callee) Dest.Any
+      emit (Instruction.Call (regOf d) (regOf src) count)
+      giveBack src
+      ret (Operand.Register d)
+    -- "Property: destination, object, key pooled."
+    lowerNode J i (Node.PropertyAccess object property) dest = do
+      d ← destination dest
+      src ← lowerMaterializing (E object) Dest.Any
+      key ← store (Operand.String property)
+      emit (Instruction.GetPropertyK (regOf d) (regOf src) key)
+      giveBack src
+      ret (Operand.Register d)
+    -- "Map: CreateMap, then entry by entry." The registers "of map entries" stay held.
+    lowerNode J i (Node.Map first count) dest = do
+      d ← destination dest
+      emit (Instruction.CreateMap (regOf d))
+      lowerEntries t E d first count 0
+      ret (Operand.Register d)
+
   -- Recursion over the arena. "Is every node it names lower than itself?": so the node's index falls at each descent to a child. antt takes
   -- recursion on a part of an argument only; a bound above the index, one less at each descent, stands for it here, and nowhere else: below
   -- are the same two at a node, with no bound.
   unfoldable mutual
     pub expressionBelow : ℕ → ℕ → Dest → Walk Operand
-    expressionBelow zero i dest = refuse Refusal.Order i
+    expressionBelow zero i dest = refuse t Refusal.Order i
     expressionBelow (suc bound) i dest = lowerNode (λ n d. expressionBelow bound n d) (λ n. jumpBelow bound n) i (node t i) dest
 
     pub jumpBelow : ℕ → ℕ → Walk ℕ
-    jumpBelow zero i = refuse Refusal.Order i
+    jumpBelow zero i = refuse t Refusal.Order i
     jumpBelow (suc bound) i =
-        jumpNode (λ n d. expressionBelow bound n d) false
+        jumpNode t (λ n d. expressionBelow bound n d) false
         (λ d. lowerNode (λ n e. expressionBelow bound n e) (λ n. jumpBelow bound n) i (node t i) d)
         (node t i)
 
@@ -325,4 +329,4 @@ module _ (t : Tree) where
   lowerJumpIfFalse i = jumpBelow (suc i) i
 
   unfoldable pub lowerJumpIfTrue : ℕ → Walk ℕ
-  lowerJumpIfTrue i = jumpNode lowerExpression true (lowerExpression i) (node t i)
+  lowerJumpIfTrue i = jumpNode t lowerExpression true (lowerExpression i) (node t i)

@@ -228,6 +228,15 @@ module _ (M : Operators) where
     unfoldable pub OrderPremise : ℕ → Type 0
     OrderPremise i = asksBelow (suc i) i
 
+    -- and where node i is a condition, of its own two values
+    unfoldable pub ConditionPremise : ℕ → Type 0
+    ConditionPremise i = conditionAsksBelow (suc i) i
+
+-- what is asked of a condition's own two values: of one that jumps on false as at an if, of one that jumps on true nothing
+abbrev pub AtRoot : Bool → Type 0 → Type 0
+AtRoot false A = A
+AtRoot true A = Unit {0}
+
 -- ---- the tree
 
 -- i is one of the nodes named

@@ -9,6 +9,7 @@ use Rattle.diagnostics.specs.declared.Error.{Error}
 use Rattle.diagnostics.specs.Refusal.{numberOf}
 use Rattle.words.specs.Words.{words}
 use Rattle.words.specs.Records.{capacity}
+use Rattle.environment.specs.declared.Register.{Register}
 use Rattle.environment.specs.Environment.{parameters}
 use Rattle.runtime.specs.declared.instruction.Instruction.{Instruction}
 use Rattle.runtime.specs.Operands.{regOf}
@@ -17,7 +18,7 @@ use Rattle.lowering.specs.declared.Dest.{Dest}
 use Rattle.lowering.specs.Tree.{Tree, treeOf}
 use Rattle.lowering.specs.Questions.{Verdict, passed, refused, questions}
 use Rattle.lowering.specs.Walk.{Made, made, Outcome, ends, stops, Walk, bind, _>>=_, _>>_, ret}
-use Rattle.lowering.specs.Steps.{emit, patchArguments, withOffset}
+use Rattle.lowering.specs.Steps.{freeTemp, emit, patchArguments, withOffset}
 use Rattle.lowering.specs.Lower.{lowerMaterializing, lowerExpression, lowerJumpIfFalse, lowerJumpIfTrue}
 
 -- "Result: number (0 accepted), place, span start, span end, instructions, constants, frame size, arity."
@@ -44,18 +45,18 @@ begin code constants marks pooled arity = made code constants marks (record { re
 
 -- "Modes: 0 value, 1 jump if false, 2 jump if true." The answer is the jump's place, in mode 0 none: 0. A mode past 2, which question 2
 -- refuses, reads as 2.
-unfoldable pub lowerRoot : Tree → ℕ → ℕ → Walk ℕ
-lowerRoot t zero root = do
-  src ← lowerMaterializing (lowerExpression t root) Dest.Any
+unfoldable pub lowerRoot : (Register → Walk Unit) → Tree → ℕ → ℕ → Walk ℕ
+lowerRoot giveBack t zero root = do
+  src ← lowerMaterializing (lowerExpression giveBack t root) Dest.Any
   emit (Instruction.Return (regOf src))
   patchArguments
   ret 0
-lowerRoot t (suc zero) root = do
-  jump ← lowerJumpIfFalse t root
+lowerRoot giveBack t (suc zero) root = do
+  jump ← lowerJumpIfFalse giveBack t root
   patchArguments
   ret jump
-lowerRoot t (suc (suc mode)) root = do
-  jump ← lowerJumpIfTrue t root
+lowerRoot giveBack t (suc (suc mode)) root = do
+  jump ← lowerJumpIfTrue giveBack t root
   patchArguments
   ret jump
 
@@ -81,15 +82,19 @@ answered arity (ends place m) = leaves (result 0 place 0 0 (m .state .instructio
 answered arity (stops e m) = leaves (result (numberOf (e .refusal)) (e .place) (e .start) (e .end) (m .state .instructions) (m .state .constants) 0 0) m
 
 -- "Before the walk [..]; counts are 0": nothing is written
-unfoldable pub lowerChecked : Verdict → Tree → ℕ → ℕ → Made → Lowered
-lowerChecked passed t mode root m = answered (length (t .names)) (lowerRoot t mode root m)
-lowerChecked (refused refusal place) t mode root m = leaves (result (numberOf refusal) place 0 0 0 0 0 0) m
+unfoldable pub lowerChecked : (Register → Walk Unit) → Verdict → Tree → ℕ → ℕ → Made → Lowered
+lowerChecked giveBack passed t mode root m = answered (length (t .names)) (lowerRoot giveBack t mode root m)
+lowerChecked giveBack (refused refusal place) t mode root m = leaves (result (numberOf refusal) place 0 0 0 0 0 0) m
 
--- Lowering, by the bytes of the tree and the words of the buffers.
-unfoldable pub lower : List ℕ → ℕ → ℕ → List ℕ → List ℕ → List ℕ → List ℕ → List ℕ → Lowered
-lower nodes root mode list names code constants marks =
+-- Lowering, by what gives a register back, the bytes of the tree and the words of the buffers.
+abbrev pub lowerBy : (Register → Walk Unit) → List ℕ → ℕ → ℕ → List ℕ → List ℕ → List ℕ → List ℕ → List ℕ → Lowered
+lowerBy giveBack nodes root mode list names code constants marks =
     let t : Tree = treeOf nodes list names in
-    lowerChecked (questions nodes list names mode root) t mode root (begin code constants marks 0 (length (t .names)))
+    lowerChecked giveBack (questions nodes list names mode root) t mode root (begin code constants marks 0 (length (t .names)))
+
+-- Lowering.
+unfoldable pub lower : List ℕ → ℕ → ℕ → List ℕ → List ℕ → List ℕ → List ℕ → List ℕ → Lowered
+lower nodes root mode list names code constants marks = lowerBy freeTemp nodes root mode list names code constants marks
 
 -- "Patching answers 0 or 19 alone. 19: Is the index below the count, the count within the buffer, the kind 41 to 53? Only the offset word changes."
 unfoldable pub canPatch : List ℕ → ℕ → ℕ → Bool

@@ -10,6 +10,7 @@ use Rattle.words.specs.Records.{Buffer, append, maxCount}
 use Rattle.environment.specs.declared.Register.{Register}
 use Rattle.environment.specs.declared.RegisterSet.{RegisterSet}
 use Rattle.environment.specs.declared.Found.{Found}
+use Rattle.environment.specs.Registers.{held}
 use Rattle.environment.specs.Environment.{allocated, freed}
 use Rattle.runtime.specs.declared.instruction.Instruction.{Instruction}
 use Rattle.runtime.specs.declared.operand.Operand.{Operand}
@@ -57,6 +58,11 @@ allocateTemp m = registered (allocated Register.Temp (m .state .registers) .regi
 -- `free_temp`
 unfoldable pub freeTemp : Register → Walk Unit
 freeTemp r m = ends tt (withRegisters (freed (m .state .registers) r) m)
+
+-- the same, but it stops where the temporary is not held, with a refusal that no lowering answers (19 is patching's)
+unfoldable pub freeHeld : Register → Walk Unit
+freeHeld (Register.Temp r) m = cond (held (m .state .registers) r) (freeTemp (Register.Temp r) m) (stops (unnamed Refusal.Jump) m)
+freeHeld (Register.Local r) m = freeTemp (Register.Local r) m
 
 -- the register asked for, else a temporary
 unfoldable pub destination : Dest → Walk Register

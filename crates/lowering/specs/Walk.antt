@@ -43,3 +43,8 @@ error refusal place start end = record { refusal = refusal; place = place; start
 
 abbrev pub unnamed : Refusal → Error
 unnamed refusal = error refusal 0 0 0
+
+-- what was made, whether it ended or stopped
+unfoldable pub left : {A : Type 0} → Outcome A → Made
+left (ends a m) = m
+left (stops e m) = m

@@ -2,7 +2,7 @@
 -- pool, that place is the first with the constant's words. Assumes nothing.
 use mathlib.Core.Path.{_≡_, refl, sym, _∙_}
 use mathlib.Core.List.{List}
-use mathlib.Core.Logic.{_≢_, _⊎_, inl, inr}
+use mathlib.Core.Logic.{_⊎_, inl, inr}
 use mathlib.Core.Bool.{true}
 use Prim.Native.Nat.{ℕ, _+_, _<_, _≤_}
 use native.Mathlib.Omega.{arith}
@@ -11,14 +11,15 @@ use lib.ListN.{length}
 use borrow.Author.Tests.{lt-ltb, le-ltb}
 use Rattle.diagnostics.specs.declared.Refusal.{Refusal}
 use Rattle.diagnostics.specs.declared.Place.{Place}
-use Rattle.words.specs.Records.{Buffer, buffer, capacity, recordAt, putRecord, isAt, append, position, maxCount}
+use Rattle.words.specs.Records.{Buffer, buffer, capacity, recordAt, putRecord, isAt, append, position, maxCount, First}
 use Rattle.words.proofs.Records.{record-same, record-other, record-capacity, append-room, append-full, append-limit}
-use Rattle.words.proofs.Search.{First, position-first, is-record, record-is}
+use Rattle.words.proofs.Search.{position-first, is-record, record-is}
 use Rattle.runtime.specs.declared.instruction.Instruction.{Instruction}
 use Rattle.runtime.specs.declared.operand.Operand.{Operand}
 use Rattle.runtime.specs.Instruction.{instructionWidth, wordsOf}
 use Rattle.runtime.specs.Value.{constantWidth, constantWords}
 use Rattle.runtime.specs.Function.{emitInstruction, storeConstant, maxInstructions}
+use Rattle.runtime.specs.Pool.{Unpooled, Emitted, Stored, Full}
 use Rattle.runtime.proofs.Encoding.{length-words-of}
 use Rattle.runtime.proofs.Constants.{constant-width}
 
@@ -53,10 +54,6 @@ appending w ws count limit r refusal e = go (decLt count limit) (decLt count (ca
     go (yes l) (no h) = rw (append-full ws count limit r refusal (rw e (omega arith))) (full (inl (omega arith)))
     go (no l) _ = rw (append-limit ws count limit r refusal (omega arith)) (full (inr (omega arith)))
 
--- the constant is none of the first n records, as far as they are whole
-abbrev pub Unpooled : List ℕ → Operand → ℕ → Type 0
-Unpooled ws c n = (q : ℕ) → q < n → q < capacity constantWidth ws → recordAt constantWidth ws q ≢ constantWords c
-
 -- a constant: pooled already, or appended
 data Storing (ws : List ℕ) (count : ℕ) (c : Operand) : Buffer → Type 0 where
   pooled : (p : ℕ) → p < count → p < capacity constantWidth ws → recordAt constantWidth ws p ≡ constantWords c → Unpooled ws c p →
@@ -88,38 +85,6 @@ storing ws count c = go (decLt place count)
         (new (λ q l. unpooled q (omega arith)) (appending constantWidth ws count maxCount (constantWords c) Refusal.Constants (constant-width c)))
 
 -- ---- what they leave
-
--- an instruction at p
-pub record Emitted (ws : List ℕ) (count : ℕ) (i : Instruction) (after : Buffer) (p : ℕ) : Type 0 where
-  -- it is put behind the last
-  pub last : p ≡ count
-  -- and counted
-  pub counted : after .answer .count ≡ p + 1
-  -- its words are there
-  pub holds : recordAt instructionWidth (after .words) p ≡ wordsOf i
-  -- every other record is as it was
-  pub kept : (q : ℕ) → q ≢ p → recordAt instructionWidth (after .words) q ≡ recordAt instructionWidth ws q
-
--- a constant at p
-pub record Stored (ws : List ℕ) (count : ℕ) (c : Operand) (after : Buffer) (p : ℕ) : Type 0 where
-  -- it is one of those counted
-  pub counted : p < after .answer .count
-  -- its words are there
-  pub holds : recordAt constantWidth (after .words) p ≡ constantWords c
-  -- and at no place before
-  pub first : Unpooled (after .words) c p
-  -- every record but the one behind the last is as it was
-  pub kept : (q : ℕ) → q ≢ count → recordAt constantWidth (after .words) q ≡ recordAt constantWidth ws q
-  -- where it was pooled nothing has changed, and where it was not there is one more
-  pub grows : ((p < count) × (after .words ≡ ws) × (after .answer .count ≡ count)) ⊎ ((p ≡ count) × (after .answer .count ≡ count + 1) × Unpooled ws c count)
-
--- no place, and why
-pub record Full (w : ℕ) (ws : List ℕ) (count limit : ℕ) (after : Buffer) : Type 0 where
-  -- nothing has changed
-  pub kept : after .words ≡ ws
-  pub counted : after .answer .count ≡ count
-  -- the buffer has no whole record left, or the limit is reached
-  pub full : (capacity w ws ≤ count) ⊎ (limit ≤ count)
 
 module _ (ws : List ℕ) (count : ℕ) (i : Instruction) where
   emitting : Appending instructionWidth ws count maxInstructions (wordsOf i) Refusal.Code (emitInstruction ws count i)

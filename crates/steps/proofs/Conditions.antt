@@ -8,11 +8,11 @@ use Rattle.syntax.specs.declared.ops.Comparison.{Comparison}
 use Rattle.runtime.specs.declared.operand.Operand.{Operand}
 use Rattle.lowering.specs.declared.Dest.{Dest}
 use Rattle.lowering.specs.Tree.{Tree}
+use Rattle.lowering.specs.Checked.{Below}
 use Rattle.lowering.specs.Walk.{Made, Walk, bind}
-use Rattle.lowering.specs.Steps.{destination}
+use Rattle.lowering.specs.Steps.{freeTemp, destination}
 use Rattle.lowering.specs.Operators.{comparison}
 use Rattle.lowering.specs.Lower.{lowerMaterializing, lowerNode, tested, fused, jumpNode}
-use Rattle.lowering.proofs.Checked.{Below}
 use Rattle.steps.specs.declared.kinds.Condition.{Condition}
 use Rattle.steps.specs.declared.kinds.Single.{Single}
 use Rattle.steps.specs.Kinds.{fusable, conditionOf, singleNode, singleEnd}
@@ -75,7 +75,7 @@ module _ (t : Tree) where
 
   -- an arm with one operand: destination, operand, and its end
   pub single-arm : (E : ℕ → Dest → Walk Operand) (J : ℕ → Walk ℕ) (i : ℕ) (single : Single) (operand : ℕ) (dest : Dest) (m : Made) →
-      lowerNode t E J i (singleNode single operand) dest m
+      lowerNode freeTemp t E J i (singleNode single operand) dest m
       ≡ bind (destination dest m) (λ d m₁. bind (lowerMaterializing (E operand) Dest.Any m₁) (λ src. singleEnd single d src))
   unfolding lowerNode singleNode singleEnd
   single-arm E J i (Single.Operator operator) operand dest m = refl

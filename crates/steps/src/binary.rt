@@ -6,6 +6,7 @@ ghost use Rattle.words.specs.Words.{words, tail};
 ghost use Rattle.lowering.specs.declared.Dest.{Dest};
 ghost use Rattle.lowering.specs.Tree.{Tree};
 ghost use Rattle.lowering.specs.Walk.{Walk, made};
+ghost use Rattle.lowering.specs.Steps.{freeTemp};
 ghost use Rattle.lowering.specs.Lower.{register, constant, binarySources};
 ghost use Rattle.steps.specs.Answers.{seen, answered};
 use crate::answer::Answer;
@@ -34,7 +35,7 @@ pub fn lower_binary_rr(
     src1: Register,
     src2: Register,
 ) -> Lowered
-    ensures step { λ r. ⌜ ((t : Tree) (E : ℕ → Dest → Walk Operand) (left right : ℕ) (p m : List ℕ) → answered Answer.Operand (binarySources t E operator left right d (register src1) (register src2)
+    ensures step { λ r. ⌜ ((t : Tree) (E : ℕ → Dest → Walk Operand) (left right : ℕ) (p m : List ℕ) → answered Answer.Operand (binarySources freeTemp t E operator left right d (register src1) (register src2)
         (made (words (now (code .entry))) p m state)) ≡ seen (made (words (now (code .exit))) p m (r .state)) (r .answer)) ⌝ }
     ensures tail { λ r. ⌜ tail (now (code .exit)) ≡ tail (now (code .entry)) ⌝ }
 {
@@ -66,7 +67,7 @@ pub fn lower_binary_rk(
     src1: Register,
     src2: Operand,
 ) -> Lowered
-    ensures step { λ r. ⌜ ((t : Tree) (E : ℕ → Dest → Walk Operand) (left right : ℕ) (m : List ℕ) → answered Answer.Operand (binarySources t E operator left right d (register src1) (constant src2)
+    ensures step { λ r. ⌜ ((t : Tree) (E : ℕ → Dest → Walk Operand) (left right : ℕ) (m : List ℕ) → answered Answer.Operand (binarySources freeTemp t E operator left right d (register src1) (constant src2)
         (made (words (now (code .entry))) (words (now (constants .entry))) m state))
         ≡ seen (made (words (now (code .exit))) (words (now (constants .exit))) m (r .state)) (r .answer)) ⌝ }
     ensures code { λ r. ⌜ tail (now (code .exit)) ≡ tail (now (code .entry)) ⌝ }
@@ -95,7 +96,7 @@ pub fn lower_binary_kr(
     src1: Operand,
     src2: Register,
 ) -> Lowered
-    ensures step { λ r. ⌜ ((t : Tree) (E : ℕ → Dest → Walk Operand) (left right : ℕ) (m : List ℕ) → answered Answer.Operand (binarySources t E operator left right d (constant src1) (register src2)
+    ensures step { λ r. ⌜ ((t : Tree) (E : ℕ → Dest → Walk Operand) (left right : ℕ) (m : List ℕ) → answered Answer.Operand (binarySources freeTemp t E operator left right d (constant src1) (register src2)
         (made (words (now (code .entry))) (words (now (constants .entry))) m state))
         ≡ seen (made (words (now (code .exit))) (words (now (constants .exit))) m (r .state)) (r .answer)) ⌝ }
     ensures code { λ r. ⌜ tail (now (code .exit)) ≡ tail (now (code .entry)) ⌝ }

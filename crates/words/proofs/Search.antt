@@ -12,7 +12,7 @@ use lib.ListN.{length, getD, take, drop, drop-of-length-le}
 use lib.Seq.{drop-cons}
 use lib.Dec.{ltb, eqb}
 use borrow.Author.Tests.{eq-eqb, ne-eqb, lt-ltb, le-ltb, eqb-true, ltb-true}
-use Rattle.words.specs.Records.{capacity, recordAt, sameWords, isAt, positionFrom, position}
+use Rattle.words.specs.Records.{capacity, recordAt, sameWords, isAt, positionFrom, position, First}
 
 false≢true : false ≡ true → ⊥
 false≢true e = let z : _≡_ {A = ℕ} 0 1 = cc in omega arith
@@ -76,13 +76,6 @@ module _ (ws : List ℕ) (at : ℕ) (r : List ℕ) where
   same-end k h =
       let n : length r - k ≡ 0 = omega arith in
       rw (n, drop-of-length-le r h)
-
--- what `positionFrom` finds: a place within reach, where it is inside that of r, and before it no record that is r
-pub record First (ws r : List ℕ) (n p q : ℕ) : Type 0 where
-  pub start : p ≤ q
-  pub within : q ≤ p + n
-  pub found : q < p + n → isAt ws r q ≡ true
-  pub before : (j : ℕ) → p ≤ j → j < q → isAt ws r j ≡ false
 
 first : (ws r : List ℕ) (n p : ℕ) → First ws r n p (positionFrom ws r n p)
 unfolding positionFrom

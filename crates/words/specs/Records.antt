@@ -1,6 +1,7 @@
 -- Records of w words, one after the other: "Node, six words", "Instruction, four words", "Constant, three words"; a list word, a name and a
 -- mark are records of one.
-use Prim.Native.Nat.{ℕ, zero, suc, _+_, _*_, _/_}
+use Prim.Native.Nat.{ℕ, zero, suc, _+_, _*_, _/_, _≤_, _<_}
+use mathlib.Core.Path.{_≡_}
 use mathlib.Core.List.{List, [], _∷_}
 use mathlib.Core.Bool.{Bool, true, false, cond, _&&_}
 use lib.Dec.{ltb, eqb}
@@ -59,3 +60,10 @@ append ws count limit r refusal =
     cond (ltb count limit && ltb count (capacity (length r) ws))
     (buffer (putRecord (length r) ws count r) (record { count = count + 1; place = Place.At count }))
     (buffer ws (record { count = count; place = Place.Refused refusal }))
+
+-- "the pool gives the first equal constant", of any record: what `positionFrom` finds, a place within reach, where it is inside that of r, and before it no record that is r
+pub record First (ws r : List ℕ) (n p q : ℕ) : Type 0 where
+  pub start : p ≤ q
+  pub within : q ≤ p + n
+  pub found : q < p + n → isAt ws r q ≡ true
+  pub before : (j : ℕ) → p ≤ j → j < q → isAt ws r j ≡ false

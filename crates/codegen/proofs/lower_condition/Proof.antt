@@ -1,6 +1,6 @@
 -- `codegen::lower_condition` meets its contract. Assumes nothing.
 use Rattle.steps.specs.declared.answer.Answer.{Answer}
-use Rattle.lower_expression.proofs.Laws.{then-place, stop}
+use Rattle.codegen.proofs.Walk.{then-place, stop}
 use borrow.Author.Needs.{needs}
 use Rattle.codegen.proofs.lower_condition.Statement.{statement}
 use Rattle.codegen.proofs.lower_condition.Tie as tie

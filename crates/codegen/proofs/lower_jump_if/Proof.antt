@@ -2,7 +2,7 @@
 use Rattle.lowering.specs.Lower.{tested}
 use Rattle.steps.specs.Answers.{asRegister}
 use Rattle.steps.proofs.Conditions.{jumpBy}
-use Rattle.lower_expression.proofs.Laws.{then-register, stop, condition-below-of}
+use Rattle.codegen.proofs.Walk.{then-register, stop, condition-below-of}
 use Rattle.codegen.proofs.Laws.{jump-of}
 use borrow.Author.Needs.{needs}
 use Rattle.codegen.proofs.lower_jump_if.Statement.{statement}

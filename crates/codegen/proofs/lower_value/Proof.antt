@@ -3,7 +3,7 @@ use mathlib.Core.Path.{refl, _∙_}
 use Rattle.lowering.specs.Result.{lowerRoot}
 use Rattle.steps.specs.declared.answer.Answer.{Answer}
 use Rattle.steps.specs.Answers.{asRegister}
-use Rattle.lower_expression.proofs.Laws.{then-register, then-place, stop}
+use Rattle.codegen.proofs.Walk.{then-register, then-place, stop}
 use borrow.Author.Needs.{needs}
 use Rattle.codegen.proofs.lower_value.Statement.{statement}
 use Rattle.codegen.proofs.lower_value.Tie as tie

@@ -3,7 +3,8 @@ use mathlib.Core.Path.{sym, _∙_}
 use Prim.Native.Nat.{ℕ}
 use lib.ListN.{length-replicate}
 use lib.Seq.{length-take-le}
-use Rattle.lister.proofs.Laws.{listingBytes, listing-room, listed}
+use Rattle.lister.specs.Lister.{listingBytes}
+use Rattle.lister.proofs.Laws.{listing-room, listed}
 use borrow.Author.Needs.{needs}
 use Rattle.vectors.proofs.agrees.Statement.{statement}
 use Rattle.vectors.proofs.agrees.Tie as tie

@@ -1,7 +1,7 @@
 -- `RegisterSet::give_back` meets its contract: the mask has the register's bit alone, and `or` sets it. Assumes nothing.
 use borrow.Author.Tests.{lt-ltb, le-ltb}
 use Rattle.environment.specs.Registers.{givenBack}
-use Rattle.environment.proofs.Free.{or-putBack}
+use Rattle.environment.proofs.Free.{flip-putBack}
 use borrow.Author.Needs.{needs}
 use Rattle.environment.proofs.RegisterSet.give_back.Statement.{statement}
 use Rattle.environment.proofs.RegisterSet.give_back.Tie as tie
@@ -29,7 +29,7 @@ array-write-words c = search needs
 
 returns : tie.Need-returns
 unfolding givenBack
-returns c = rw (lt-ltb _ _ (c .before .if1 .taken), or-putBack (c .before .before .args .self .words) (c .before .before .args .r))
+returns c = rw (lt-ltb _ _ (c .before .if1 .taken), flip-putBack (c .before .before .args .self .words) (c .before .before .args .r))
 
 returns-2 : tie.Need-returns-2
 unfolding givenBack

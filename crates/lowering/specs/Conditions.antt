@@ -1,0 +1,98 @@
+-- A law of our own, for the code that lowering leaves of an accepted tree in mode 1 or 2, with the jump at the place given patched to a goal: what is
+-- given, and each sentence as a statement about `after`. Proved in proofs/.
+use Prim.Native.Nat.{ℕ, _+_, _<_, _≤_}
+use mathlib.Core.Path.{_≡_}
+use mathlib.Core.Logic.{_≢_, _↔_}
+use mathlib.Core.List.{List}
+use mathlib.Core.Bool.{Bool, true, false, cond, not, Bool·beq}
+use mathlib.Core.Option.{some}
+use lib.ListN.{length}
+use Rattle.lowering.specs.Tree.{Tree, treeOf, node}
+use Rattle.lowering.specs.Result.{Lowered, Patched, lower, patch}
+use Rattle.lowering.specs.Meaning.{Operators, Hypotheses, Worth, worth, fails, undefined, tests, worthAt, OrderPremise, ConditionPremise, AtRoot, Reaches, Plain, sizeAt}
+use Rattle.lowering.specs.Machine.{target, fetch, constantAt, failed, Registers, Now, at, ended, after}
+
+-- "Modes: [..] 1 jump if false, 2 jump if true": by the outcome of the test at which it jumps
+abbrev pub modeOf : Bool → ℕ
+modeOf false = 1
+modeOf true = 2
+
+-- Any operators that keep the hypotheses, any parameters, and any registers that start with them. The order premise is asked of the ifs inside;
+-- of the condition's own two values as at an if where it jumps on false, and not where it jumps on true.
+pub record Entry (sense : Bool) (t : Tree) (root : ℕ) : Type 1 where
+  pub operators : Operators
+  pub hypotheses : Hypotheses operators
+  pub parameters : ℕ → operators .Value
+  pub registers : Registers operators
+  pub filled : (r : ℕ) → r < length (t .names) → registers r ≡ parameters r
+  pub order : OrderPremise operators t parameters root
+  pub own : AtRoot sense (ConditionPremise operators t parameters root)
+
+-- any place that a jump at a given place comes to, with the offset that it is patched to
+pub record Goal (jump : ℕ) : Type 0 where
+  pub offset : ℕ
+  pub place : ℕ
+  pub reached : target jump offset ≡ some place
+
+module _ (sense : Bool) (t : Tree) (root : ℕ) (x : Lowered) where
+  -- the place behind the code
+  abbrev pub behind : ℕ
+  behind = x .result .instructions
+
+  -- the code with its jump patched
+  abbrev pub patchedTo : Goal (x .result .place) → Patched
+  patchedTo g = patch (x .code) behind (x .result .place) (g .offset)
+
+  -- what the tree's value tests as: a boolean, the tree's failure, or the test's
+  abbrev pub testOf : (s : Entry sense t root) → Worth (s .operators .Failure) Bool
+  testOf s = tests (s .operators) (worthAt (s .operators) t (s .parameters) root)
+
+  module _ (g : Goal (x .result .place)) (s : Entry sense t root) where
+    -- the run from place 0, after n steps
+    abbrev pub runTo : ℕ → Now (s .operators)
+    runTo n =
+        after (s .operators) (constantAt (s .operators) (x .constants) (x .result .constants)) (fetch (patchedTo g .code) behind) n
+        (at 0 (s .registers))
+
+    -- where a run is left: at the goal where the tree's value tests as `sense`, behind the code where it tests the other way; with the failure, ended
+    abbrev pub LeftBy : Worth (s .operators .Failure) Bool → Now (s .operators) → Type 0
+    LeftBy (worth b) now = (R : Registers (s .operators)) × (now ≡ at (cond (Bool·beq b sense) (g .place) behind) R)
+    LeftBy (fails y) now = now ≡ ended (failed y)
+    LeftBy undefined now = ⊥
+
+    -- a run up to there, of n steps: left by the jump, with its last step; each step at a place of the code, "no instruction runs twice", "every parameter
+    -- keeps its value at each step"
+    pub record UpTo (n : ℕ) : Type 0 where
+      pub left : LeftBy (testOf s) (runTo n)
+      pub by-jump : (b : Bool) → testOf s ≡ worth b → (k : ℕ) × (P : Registers (s .operators)) × (n ≡ k + 1) × (runTo k ≡ at (x .result .place) P)
+      pub steps : n ≤ behind
+      pub inside : (k : ℕ) → k < n → (p : ℕ) × (P : Registers (s .operators)) × (runTo k ≡ at p P) × (p < behind)
+      pub once : (j k p q : ℕ) (P Q : Registers (s .operators)) → j < k → k < n → runTo j ≡ at p P → runTo k ≡ at q Q → p < q
+      pub parameters : (k p : ℕ) (P : Registers (s .operators)) → k ≤ n → runTo k ≡ at p P → (r : ℕ) → r < length (t .names) → P r ≡ s .parameters r
+
+    -- "comes to the goal exactly when the tree's value tests false (true), to the place behind the code exactly when it tests the other way, and ends
+    -- with the tree's or the test's failure otherwise"; once and parameters at every step
+    pub record Exactly : Type 0 where
+      pub to-goal : (testOf s ≡ worth sense) ↔ ((n : ℕ) × (R : Registers (s .operators)) × (runTo n ≡ at (g .place) R))
+      pub to-behind : (testOf s ≡ worth (not sense)) ↔ ((n : ℕ) × (R : Registers (s .operators)) × (runTo n ≡ at behind R))
+      pub fails-alike : (y : s .operators .Failure) → (testOf s ≡ fails y) ↔ ((n : ℕ) × (runTo n ≡ ended (failed y)))
+      pub once : (j k p q : ℕ) (P Q : Registers (s .operators)) → j < k → runTo j ≡ at p P → runTo k ≡ at q Q → p < q
+      pub parameters : (k p : ℕ) (P : Registers (s .operators)) → runTo k ≡ at p P → (r : ℕ) → r < length (t .names) → P r ≡ s .parameters r
+
+  pub record ConditionOf : Type 1 where
+    -- the jump is the last instruction, and any patch of it is accepted
+    pub last : behind ≡ x .result .place + 1
+    pub patchable : (g : Goal (x .result .place)) → patchedTo g .number ≡ 0
+    -- whatever the goal, also one inside of the code
+    pub runs : (g : Goal (x .result .place)) (s : Entry sense t root) → (n : ℕ) × UpTo g s n
+    -- a goal past the place behind the code, so that the machine is at it nowhere else
+    pub exactly : (g : Goal (x .result .place)) (s : Entry sense t root) → behind < g .place → Exactly g s
+    pub short : behind ≤ sizeAt t root + 1
+    pub defined : (M : Operators) (values : ℕ → M .Value) → worthAt M t values root ≢ undefined
+
+-- For every tree without calls and maps that `lower` accepts in mode 1 (2), whatever the buffers.
+abbrev pub ConditionLaw : Type 1
+ConditionLaw = (sense : Bool) (nodes list names : List ℕ) (root : ℕ) (code constants marks : List ℕ) →
+    ((i : ℕ) → Reaches (treeOf nodes list names) root i → Plain (node (treeOf nodes list names) i)) →
+    lower nodes root (modeOf sense) list names code constants marks .result .number ≡ 0 →
+    ConditionOf sense (treeOf nodes list names) root (lower nodes root (modeOf sense) list names code constants marks)
