@@ -5,7 +5,8 @@ use native.Mathlib.Omega.{arith}
 use native.Mathlib.Nat.{lt-of-lt-of-le}
 use native.Mathlib.Decide.{decLt, ℕ-discrete}
 use mathlib.Core.Path.{_≡_, refl, sym, ap, _∙_, subst}
-use mathlib.Core.Bool.{Bool, true, false}
+use mathlib.Core.Bool.{Bool, true, false, cond}
+use mathlib.Core.Option.{none, some}
 use mathlib.Core.List.{List, [], _∷_, _++_}
 use lib.Ieee.{binary64}
 use lib.Ieee.Bits.{ofBits-fits, toBits-lt}
@@ -177,7 +178,18 @@ unfolding constantWords
 nil-words = three _ _ _ (omega arith) (omega arith) (omega arith)
 
 abbrev Fine : Node → Type 0
-Fine n = Words (constantWords (constantOfNode n))
+Fine n = (c : Operand) → constantOfNode n ≡ some c → Words (constantWords c)
+
+-- the constant of a node that has one, and a node that has none
+fine-some : {x : Operand} → Words (constantWords x) → (c : Operand) → some x ≡ some c → Words (constantWords c)
+fine-some {x} h c e = let same : x ≡ c = cc in subst (λ y. Words (constantWords y)) same h
+
+fine-none : (c : Operand) → none ≡ some c → Words (constantWords c)
+fine-none c e = let z : _≡_ {A = ℕ} 0 1 = cc in absurd (omega arith)
+
+fine-tail : (b : Bool) (c : Operand) → cond b (some Operand.Nil) none ≡ some c → Words (constantWords c)
+fine-tail true c e = fine-some nil-words c e
+fine-tail false c e = fine-none c e
 
 module _ (a b c : ℕ) where
   abbrev AllFine : List (ℕ → ℕ → ℕ → Node) → Type 0
@@ -186,8 +198,8 @@ module _ (a b c : ℕ) where
 
   fine-at : (l : List (ℕ → ℕ → ℕ → Node)) → AllFine l → (k : ℕ) → Fine (getD l k (λ a b c. Node.Nil) a b c)
   unfolding constantOfNode
-  fine-at [] h zero = nil-words
-  fine-at [] h (suc k) = nil-words
+  fine-at [] h zero = fine-some nil-words
+  fine-at [] h (suc k) = fine-some nil-words
   fine-at (f ∷ l) h zero = h .0
   fine-at (f ∷ l) h (suc k) = fine-at l (h .1) k
 
@@ -200,7 +212,7 @@ node-words : (nodes : List ℕ) → Words nodes → (i : ℕ) → Fine (nodeAt n
 unfolding constantOfNode nodeAt nodeWord
 node-words nodes h i =
     fine-at (nodeWord nodes i 1) (nodeWord nodes i 2) (nodeWord nodes i 3) nodeKinds
-    (number-words _ _, (string-words _ (h _), (boolean-words _, (nil-words, (string-words _ (h _), (nil-words, (nil-words, (nil-words, (nil-words, (nil-words, (nil-words, (nil-words, (nil-words, (string-words _ (h _), (nil-words, tt)))))))))))))))
+    (fine-some (number-words _ _), (fine-some (string-words _ (h _)), (fine-some (boolean-words _), (fine-some nil-words, (fine-some (string-words _ (h _)), (fine-none, (fine-none, (fine-none, (fine-none, (fine-none, (fine-none, (fine-tail _, (fine-none, (fine-some (string-words _ (h _)), (fine-none, tt)))))))))))))))
     (nodeWord nodes i 0)
 
 -- ---- a run
@@ -232,7 +244,7 @@ module _ {t : Tree} {root : ℕ} (tree : Words (t .nodes)) where
   kept-each {m = m} (emits i f l k) x y h = (put-words 4 (m .code) (instructionsOf m) (wordsOf i) (h .0) (instruction-words i (constantsOf m) x f), h .1, h .2)
   kept-each (finds c l e f) x y h = h
   kept-each {m = m} (pools {c = c} o f k) x y h =
-      (h .0, put-words 3 (m .constants) (constantsOf m) (constantWords c) (h .1) (rw (o .its) (node-words (t .nodes) tree (o .owner))), h .2)
+      (h .0, put-words 3 (m .constants) (constantsOf m) (constantWords c) (h .1) (node-words (t .nodes) tree (o .owner) c (o .its)), h .2)
   kept-each {m = m} (patches j l k) x y h = (set-words (m .code) _ (instructionsOf m - j) (h .0) (omega arith), h .1, h .2)
   kept-each {m = m} (marks i start end z k) x y h =
       (h .0, h .1, put-words 1 (m .marks) _ ((instructionsOf m - 1) ∷ []) (h .2) (one-more (instructionsOf m - 1) [] (omega arith) no-words))

@@ -8,6 +8,7 @@ use native.Mathlib.Nat.{le-refl, le-trans, ne-of-lt}
 use mathlib.Core.Path.{_≡_, refl, sym, ap, _∙_, subst}
 use mathlib.Core.Logic.{_≢_, _⊎_, inl, inr}
 use mathlib.Core.Bool.{Bool, true, false, cond}
+use mathlib.Core.Option.{some}
 use mathlib.Core.List.{List}
 use lib.Dec.{eqb}
 use lib.ListN.{length, getD}
@@ -52,12 +53,17 @@ constant-first c m n p e = go (after .answer .place) refl e
         (s .counted, s .holds, s .first))
     go (Place.Refused r) q z = let w : _≡_ {A = ℕ} 0 1 = cc in absurd (omega arith)
 
+one-constant : {c d : Operand} → some c ≡ some d → c ≡ d
+one-constant e = cc
+
 module _ (t : Tree) (root : ℕ) where
   -- a node that the root reaches, whose constant has these words
   pub record From (ws : List ℕ) : Type 0 where
     pub owner : ℕ
     pub reached : Reaches t root owner
-    pub its : ws ≡ constantWords (constantOfNode (node t owner))
+    pub constant : Operand
+    pub its : constantOfNode (node t owner) ≡ some constant
+    pub words : ws ≡ constantWords constant
 
   -- the pool, from m to n
   pub record Pooled (m n : Made) : Type 0 where
@@ -104,7 +110,7 @@ module _ (t : Tree) (root : ℕ) where
     kept = λ p l. record-other 3 (m .constants) (constantsOf m) (constantWords c) p (constant-length c) (ne-of-lt l);
     owned = λ p a b.
         let e : p ≡ constantsOf m = omega arith in
-        rw e (record { owner = own .owner; reached = own .reached; its = there ∙ ap constantWords (own .its) });
+        rw e (record { owner = own .owner; reached = own .reached; constant = _; its = own .its; words = there });
     new = λ q p l a b.
         let e : p ≡ constantsOf m = omega arith in
         rw e (λ z. f q (omega arith) (omega arith) (sym (record-other 3 (m .constants) (constantsOf m) (constantWords c) q (constant-length c) (ne-of-lt (omega arith))) ∙ z ∙ there));
@@ -240,7 +246,7 @@ module _ (t : Tree) (root : ℕ) {m n : Made} (g : Pooled t root m n) where
         let b = g .owned (constantsOf m + q) (past q) y in
         let same : a .owner ≡ b .owner =
         sym (place-there (all (a .owner) (a .reached))) ∙ ap (λ k. getD reached k 0) z ∙ place-there (all (b .owner) (b .reached)) in
-        g .new (constantsOf m + p) (constantsOf m + q) (omega arith) (omega arith) h (a .its ∙ ap (λ i. constantWords (constantOfNode (node t i))) same ∙ sym (b .its))
+        g .new (constantsOf m + p) (constantsOf m + q) (omega arith) (omega arith) h (a .words ∙ ap constantWords (one-constant (sym (a .its) ∙ ap (λ i. constantOfNode (node t i)) same ∙ b .its)) ∙ sym (b .words))
     spot-apart p q (yes x) (no y) l h = absurd (y h)
     spot-apart p q (no x) e l h = absurd (x (omega arith))
 

@@ -83,7 +83,7 @@ named-value (key ∷ value ∷ l) (suc k) h p =
 none-some : {name : ℕ} → none ≡ some name → ⊥
 none-some e = let z : _≡_ {A = ℕ} 0 1 = cc in omega arith
 
-name-constant : (n : Node) (name : ℕ) → nameOf n ≡ some name → Operand.String name ≡ constantOfNode n
+name-constant : (n : Node) (name : ℕ) → nameOf n ≡ some name → constantOfNode n ≡ some (Operand.String name)
 unfolding nameOf constantOfNode
 name-constant (Node.Number low high) name e = absurd (none-some e)
 name-constant (Node.String symbol) name e = absurd (none-some e)
@@ -342,7 +342,7 @@ module _ (t : Tree) (root : ℕ) where
       where
         go : (b : Bool) → eqb tail absent ≡ b →
             Good t root (Settled m (Dest.To d)) (λ F. cond b (loadConstant Operand.Nil (Dest.To d)) (lowerMaterializing (E F tail) (Dest.To d))) m
-        go true z = load-good Operand.Nil (record { owner = i; reached = reached; its = ap constantOfNode (sym e) }) m (Dest.To d) r
+        go true z = load-good Operand.Nil (record { owner = i; reached = reached; its = ap constantOfNode e ∙ rw z }) m (Dest.To d) r
         go false z = child-good tail (p (eqb-false tail absent z)) (Dest.To d) m s r
 
     -- and, or: by the jump between
@@ -365,7 +365,7 @@ module _ (t : Tree) (root : ℕ) where
 
     -- ---- a node
     module _ (J : GiveBack → ℕ → Walk ℕ) (jumps : (i : ℕ) → P i → (m : Made) → Sound (registersOf m) → Good t root (Jumped m) (λ F. J F i) m) (few : length (t .names) ≤ 256) where
-      literal : {m : Made} {dest : Dest} (i : ℕ) (x c : Operand) → Reaches t root i → source x ≡ constant c → c ≡ constantOfNode (node t i) → Lowered m dest x m
+      literal : {m : Made} {dest : Dest} (i : ℕ) (x c : Operand) → Reaches t root i → source x ≡ constant c → constantOfNode (node t i) ≡ some c → Lowered m dest x m
       literal {m} {dest} i x c reached e q = record { kept = kept-refl m; answer = subst (λ y. Answer m dest m y) (sym e) (record { owner = i; reached = reached; its = q }) }
 
       -- a destination, one operand and an instruction on it
@@ -417,10 +417,10 @@ module _ (t : Tree) (root : ℕ) where
       pub node-good : (i : ℕ) (n : Node) → Reaches t root i → node t i ≡ n → Fits (length (t .list)) n → ((c : ℕ) → Named c (children (t .list) n) → P c) →
           (dest : Dest) (m : Made) → Sound (registersOf m) → Target m dest → Good t root (Lowered m dest) (λ F. lowerNode F t (E F) (J F) i n dest) m
       unfolding lowerNode children constantOfNode source wordsOf
-      node-good i (Node.Number low high) reached e f p dest m s g = done _ (literal i _ _ reached refl (ap constantOfNode (sym e)))
-      node-good i (Node.String symbol) reached e f p dest m s g = done _ (literal i _ _ reached refl (ap constantOfNode (sym e)))
-      node-good i (Node.Boolean b) reached e f p dest m s g = done _ (literal i _ _ reached refl (ap constantOfNode (sym e)))
-      node-good i Node.Nil reached e f p dest m s g = done _ (literal i _ _ reached refl (ap constantOfNode (sym e)))
+      node-good i (Node.Number low high) reached e f p dest m s g = done _ (literal i _ _ reached refl (ap constantOfNode e))
+      node-good i (Node.String symbol) reached e f p dest m s g = done _ (literal i _ _ reached refl (ap constantOfNode e))
+      node-good i (Node.Boolean b) reached e f p dest m s g = done _ (literal i _ _ reached refl (ap constantOfNode e))
+      node-good i Node.Nil reached e f p dest m s g = done _ (literal i _ _ reached refl (ap constantOfNode e))
       node-good i (Node.Identifier symbol) reached e f p dest m s g = named-good i symbol reached e few dest m g
       node-good i (Node.Binary op left right) reached e f p dest m s g =
           chain (destination-good m dest g) (λ d m0 a.
@@ -452,7 +452,7 @@ module _ (t : Tree) (root : ℕ) where
       node-good i (Node.PropertyAccess x property) reached e f p dest m s g =
           chain (destination-good m dest g) (λ d m0 a.
           chain (child-good x (p x first) Dest.Any m0 (a .kept .sound s) tt) (λ src m1 b.
-          chain (store-good (Operand.String property) m1 (record { owner = i; reached = reached; its = ap constantOfNode (sym e) })) (λ k m2 q.
+          chain (store-good (Operand.String property) m1 (record { owner = i; reached = reached; its = ap constantOfNode e })) (λ k m2 q.
           one-good (Instruction.GetPropertyK (regOf d) (regOf src) k) d src a (b .kept) (b .spot) (b .ready) (q .kept) s
           (ready-small m0 d (a .ready), ready-small m1 src (b .ready), q .inside))))
       node-good i (Node.Map start count) reached e f p dest m s g =

@@ -76,7 +76,7 @@ module _ (nodes : List ℕ) (root mode : ℕ) (list names code constants marks :
         getD (words list) (first + 2 * k + 1) 0 ≡ absent → (name : ℕ) × (nameOf (node (treeOf nodes list names) (getD (words list) (first + 2 * k) 0)) ≡ some name)
     pub shown : l ≡ leaves (result 0 place 0 0 (instructionsOf made) (constantsOf made) (made .state .registers .«frame_size») (length (words names))) made
 
-  -- how many marks were made, which no result says: none before the walk
+  -- how many marks were made (the result does not say it); 0 if the walk did not start
   abbrev pub marksMade : Verdict → ℕ
   marksMade passed = marksOf (left (lowerRoot freeTemp (treeOf nodes list names) mode root start))
   marksMade (refused r place) = 0

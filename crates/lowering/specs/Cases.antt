@@ -1,5 +1,5 @@
 -- The worked page of document 01, its starred cases ("* with the page above: to be proved"), and seventeen more whose answers are kaori's own (`answer`
--- of the oracle), for what no law covers and for modes 1 and 2: one table. In each case the buffers have place for eight instructions, four constants and
+-- of the oracle), for calls and maps, which the running law leaves out, divide and modulo, and modes 1 and 2: one table. In each case the buffers have place for eight instructions, four constants and
 -- two marks, all words 9 at entry, so that the table says too what is left past the counts. Parameters x, y are symbols 7 and 8, z is 9, p is 5.
 use Prim.Native.Nat.{ℕ, _-_}
 use mathlib.Core.List.{List, [], _∷_, _++_}
@@ -184,7 +184,7 @@ cases =
       constants = 3 ∷ 5 ∷ 0 ∷ [];
       marks = 0 ∷ [];
     }
-    -- ---- what no law covers, and modes 1 and 2: kaori's own answers
+    -- ---- calls and maps, which the running law leaves out; divide and modulo; modes 1 and 2: kaori's own answers
     -- x(y, z): a call of two arguments
     ∷ record {
       nodes = 4 ∷ 7 ∷ 0 ∷ 0 ∷ 0 ∷ 0 ∷ 4 ∷ 8 ∷ 0 ∷ 0 ∷ 0 ∷ 0 ∷ 4 ∷ 9 ∷ 0 ∷ 0 ∷ 0 ∷ 0 ∷ 12 ∷ 0 ∷ 0 ∷ 2 ∷ 0 ∷ 0 ∷ [];

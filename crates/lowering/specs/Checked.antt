@@ -1,5 +1,5 @@
--- The questions before the walk, as laws speak of them: all answered yes, or which one is the first answered no, and where. And what a tree of which
--- all are answered yes gives the walk, node by node.
+-- The questions before the walk, as laws speak of them: all answered yes, or which one is the first answered no, and where; and what
+-- the walk may rely on at each node of a tree that passed.
 use Prim.Native.Nat.{ℕ, _+_, _*_, _%_, _≤_, _<_}
 use mathlib.Core.Path.{_≡_}
 use mathlib.Core.Logic.{_≢_}
@@ -61,7 +61,7 @@ pub record AllYes (nodes list names : List ℕ) (mode root : ℕ) : Type 0 where
   pub checked : Checked (treeOf nodes list names)
   pub parameters : question8 (length (words names)) ≡ true
 
--- "its question is the first one answered no (an iff, per number, with the place)": the refusal and the place of a question answered no, with every
+-- The first question answered no: the refusal and the place of a question answered no, with every
 -- question before it answered yes: 1, 2, one of 3 to 7 "for each node, lowest first, place = node", and 8
 pub data FirstNo (nodes list names : List ℕ) (mode root : ℕ) : Refusal → ℕ → Type 0 where
   no-size : question1 nodes list names ≡ false → FirstNo nodes list names mode root Refusal.Size 0
@@ -78,7 +78,7 @@ Falls n t = (i c : ℕ) → i < n → Named c (children (t .list) (node t i)) �
 
 -- ---- what the walk asks of node i
 
--- what the nodes that an if, a call and a map name are
+-- the nodes that an if, a call or a map names are lower
 pub record IfBelow (i c a b : ℕ) : Type 0 where
   pub condition : c < i
   pub then : a < i

@@ -28,7 +28,7 @@ pub record Entry (sense : Bool) (t : Tree) (root : ℕ) : Type 1 where
   pub order : OrderPremise operators t parameters root
   pub own : AtRoot sense (ConditionPremise operators t parameters root)
 
--- any place that a jump at a given place comes to, with the offset that it is patched to
+-- an offset, and the place to which a jump with it goes
 pub record Goal (jump : ℕ) : Type 0 where
   pub offset : ℕ
   pub place : ℕ
@@ -60,7 +60,7 @@ module _ (sense : Bool) (t : Tree) (root : ℕ) (x : Lowered) where
     LeftBy (fails y) now = now ≡ ended (failed y)
     LeftBy undefined now = ⊥
 
-    -- a run up to there, of n steps: left by the jump, with its last step; each step at a place of the code, "no instruction runs twice", "every parameter
+    -- the first n steps of a run, of which the last is the jump's; each step at a place of the code, "no instruction runs twice", "every parameter
     -- keeps its value at each step"
     pub record UpTo (n : ℕ) : Type 0 where
       pub left : LeftBy (testOf s) (runTo n)

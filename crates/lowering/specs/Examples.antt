@@ -34,7 +34,7 @@ pageRun x rest n =
     after ieee (constantAt ieee (page .constants) (page .result .constants)) (fetch (page .code) (page .result .instructions)) n
     (Now.at 0 (fill ieee rest 0 (ieee .number x)))
 
--- 1, 2 and 5 by their bits
+-- 1, 2, 3 and 5 by their bits
 abbrev pub one : Float
 one = numberOf 0 1072693248
 

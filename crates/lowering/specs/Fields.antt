@@ -20,8 +20,8 @@ limit top arguments = 256
 limit top offset = 2147483648
 limit top unused = 1
 
--- the three words behind the kind, by kind from 0 (Add) to 54 (CaptureValue); 32, 34 to 37 and 54 are never made here, and what 35 says is narrower
--- than the Rust's
+-- the three words behind the kind, by kind from 0 (Add) to 54 (CaptureValue). Lowering never makes 32, 34 to 37 and
+-- 54; the row of 35 is narrower than the Rust's.
 abbrev pub fields : List (List Field)
 fields =
     (reg ∷ reg ∷ reg ∷ []) ∷

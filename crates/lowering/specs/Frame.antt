@@ -64,8 +64,7 @@ module _ {t : Tree} {root : ℕ} where
   mostHeld (reads k a) = mostHeld a
   mostHeld (counts a) = mostHeld a
 
-  -- what holds of every register that a run gives back, and of every one that it takes: G of what was made there and the register, T of what was
-  -- made there, the register and the set that it leaves
+  -- G holds at every give-back, of what was made and the register; T at every take, also of the set afterwards
   module _ (G : Made → ℕ → Type 0) (T : Made → ℕ → RegisterSet → Type 0) where
     abbrev pub Every : {A : Type 0} {w : Walk A} {m : Made} {o : Outcome A} → Runs t root A w m o → Type 0
     Every (step (takes {m = m} {s = s} {r = r} k)) = T m r s
@@ -85,7 +84,7 @@ module _ {t : Tree} {root : ℕ} where
     Every (counts a) = Every a
 
 module _ (nodes : List ℕ) (root mode : ℕ) (list names code constants marks : List ℕ) where
-  -- Where lowering accepts: a run of good steps from the parameters' registers, which takes the smallest free register each time; the frame size is
+  -- Where lowering accepts: a run from the parameters' registers, which takes the smallest free register each time; the frame size is
   -- one more than the highest register taken, the parameters' among them (0 where none was), and it is the most held at one moment. (That none is given
   -- back twice is `given-back-once`, in Came.)
   pub record Frames (l : Lowered) : Type 1 where

@@ -45,7 +45,7 @@ combined divide a b = numbers (λ x y. number (div binary64 x y)) a b
 combined modulo a b = numbers (λ x y. number (rem binary64 x y)) a b
 combined property a b = fail mismatch
 
--- equal numbers are so by IEEE 754; data of two kinds differ
+-- numbers are compared as IEEE 754 does; values of different kinds are not equal
 unfoldable pub alike : Datum → Datum → Bool
 alike (number x) (number y) = eq x y
 alike (number x) (string t) = false

@@ -38,12 +38,11 @@ arity a = length (a .tree .names)
 abbrev pub instructions : Accepted → ℕ
 instructions a = a .left .state .instructions
 
--- the records of a part, n of w words, stand in a whole from record `base` on
+-- n records of w words of `part` are those of `whole` from record `base` on
 abbrev pub StandsIn : ℕ → List ℕ → ℕ → List ℕ → ℕ → ℕ → Type 0
 StandsIn w part n whole count base = (i : ℕ) → i < n → (base + i < count) × (recordAt w whole (base + i) ≡ recordAt w part i)
 
--- Where the code runs: any code of `count` instructions in which the one that was left stands from place `base` on, any pool in which the
--- constants left stand, any operators that keep the hypotheses, any parameters, and any registers that start with them.
+-- Where the code runs: any code that has the lowered code from place `base` on, any pool that has its constants, any operators that keep the hypotheses, any parameters, and any registers that start with them.
 pub record Setting (a : Accepted) : Type 1 where
   pub code : List ℕ
   pub count : ℕ

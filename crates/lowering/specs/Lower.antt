@@ -37,14 +37,14 @@ source (Operand.String symbol) = constant (Operand.String symbol)
 source (Operand.Boolean b) = constant (Operand.Boolean b)
 source Operand.Nil = constant Operand.Nil
 
--- "Some(dest) if dest == register"
+-- whether the destination asked for is the name's own register
 unfoldable pub sameRegister : Register → Register → Bool
 sameRegister (Register.Temp a) (Register.Temp b) = eqb a b
 sameRegister (Register.Temp a) (Register.Local b) = false
 sameRegister (Register.Local a) (Register.Temp b) = false
 sameRegister (Register.Local a) (Register.Local b) = eqb a b
 
--- the name of a node that is one
+-- a name's symbol; none for any other node
 unfoldable pub nameOf : Node → Option ℕ
 nameOf (Node.Number low high) = none
 nameOf (Node.String symbol) = none
@@ -200,8 +200,8 @@ module _ (t : Tree) where
     jumpNode sense own (Node.PropertyAccess object property) = tested sense own
     jumpNode sense own (Node.Map first count) = tested sense own
 
--- The clauses that give registers back, and the walk that they are of, by what gives one back: `freeTemp` in lowering, `freeHeld` in the law that
--- each that is given back is held.
+-- The clauses that give registers back, and the walk that they make. `giveBack` is `freeTemp` in lowering, and `freeHeld` in the law that only held
+-- registers are given back.
 module _ (giveBack : Register → Walk Unit) (t : Tree) where
   module _ (E : ℕ → Dest → Walk Operand) where
     -- "then constants pooled, one instruction. Two literals are both loaded."
@@ -310,6 +310,7 @@ module _ (giveBack : Register → Walk Unit) (t : Tree) where
   -- recursion on a part of an argument only; a bound above the index, one less at each descent, stands for it here, and nowhere else: below
   -- are the same two at a node, with no bound.
   unfoldable mutual
+    -- where the bound is used up it refuses with 7: no checked tree comes there
     pub expressionBelow : ℕ → ℕ → Dest → Walk Operand
     expressionBelow zero i dest = refuse t Refusal.Order i
     expressionBelow (suc bound) i dest = lowerNode (λ n d. expressionBelow bound n d) (λ n. jumpBelow bound n) i (node t i) dest

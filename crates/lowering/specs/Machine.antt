@@ -148,7 +148,7 @@ module _ (M : Operators) where
     read R (register r) = some (R r)
     read R (pooled k) = constants k
 
-    -- on with what was read; "a missing" one ends the run "with neither"
+    -- on with what was read; a constant that is not in the pool ends the run "with neither"
     abbrev pub reading : {A : Type 0} → Option A → (A → Now M) → Now M
     reading (some v) k = k v
     reading none k = ended lost

@@ -64,8 +64,7 @@ Ordered M a b = M .compare lessEqual b a ≡ opposite (M .compare less a b)
 
 -- ---- what a node is worth
 
--- a value, a failure, or neither: an undeclared name and the else that an if does not have, which no accepted tree reaches; a call and a map,
--- of which nothing is said here
+-- a value, a failure, or undefined: an undeclared name and an else that is missing (no accepted tree reaches either), a call and a map
 pub data Worth (F A : Type 0) : Type 0 where
   worth : A → Worth F A
   fails : F → Worth F A
@@ -160,7 +159,7 @@ module _ (M : Operators) where
 
     -- ---- the order premise
 
-    -- of the two values met at an if's condition that is <, <=, > or >=, "taken either way round as a and b"
+    -- the order premise for the two values of a condition that is <, <=, > or >=, "taken either way round as a and b"
     unfoldable pub OrderAt : BinaryOp → M .Value → M .Value → Type 0
     OrderAt BinaryOp.Add a b = Unit {0}
     OrderAt BinaryOp.Subtract a b = Unit {0}
@@ -196,7 +195,7 @@ module _ (M : Operators) where
     Chosen true A B = A
     Chosen false A B = B
 
-    -- what is asked on the way of a node's evaluation: A of a node that is worked out, C of a condition
+    -- what is asked while a node is worked out: A of each node worked out, C of each condition
     unfoldable pub nodeAsks : Worths → (ℕ → Type 0) → (ℕ → Type 0) → Node → Type 0
     nodeAsks W A C (Node.Number low high) = Unit {0}
     nodeAsks W A C (Node.String symbol) = Unit {0}
@@ -232,7 +231,7 @@ module _ (M : Operators) where
     unfoldable pub ConditionPremise : ℕ → Type 0
     ConditionPremise i = conditionAsksBelow (suc i) i
 
--- what is asked of a condition's own two values: of one that jumps on false as at an if, of one that jumps on true nothing
+-- a condition's own two values: asked as at an if where it jumps on false; nothing is asked where it jumps on true
 abbrev pub AtRoot : Bool → Type 0 → Type 0
 AtRoot false A = A
 AtRoot true A = Unit {0}

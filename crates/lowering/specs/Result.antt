@@ -43,8 +43,8 @@ pub record Lowered : Type 0 where
 unfoldable pub begin : List ℕ → List ℕ → List ℕ → ℕ → ℕ → Made
 begin code constants marks pooled arity = made code constants marks (record { registers = parameters arity; instructions = 0; constants = pooled; marks = 0 })
 
--- "Modes: 0 value, 1 jump if false, 2 jump if true." The answer is the jump's place, in mode 0 none: 0. A mode past 2, which question 2
--- refuses, reads as 2.
+-- "Modes: 0 value, 1 jump if false, 2 jump if true." It answers the jump's place; in mode 0, which has no jump, 0. A mode past
+-- 2, which question 2 refuses, reads as 2.
 unfoldable pub lowerRoot : (Register → Walk Unit) → Tree → ℕ → ℕ → Walk ℕ
 lowerRoot giveBack t zero root = do
   src ← lowerMaterializing (lowerExpression giveBack t root) Dest.Any
@@ -86,7 +86,7 @@ unfoldable pub lowerChecked : (Register → Walk Unit) → Verdict → Tree → 
 lowerChecked giveBack passed t mode root m = answered (length (t .names)) (lowerRoot giveBack t mode root m)
 lowerChecked giveBack (refused refusal place) t mode root m = leaves (result (numberOf refusal) place 0 0 0 0 0 0) m
 
--- Lowering, by what gives a register back, the bytes of the tree and the words of the buffers.
+-- Lowering. `giveBack` gives a register back; the tree is given in bytes, the buffers in words.
 abbrev pub lowerBy : (Register → Walk Unit) → List ℕ → ℕ → ℕ → List ℕ → List ℕ → List ℕ → List ℕ → List ℕ → Lowered
 lowerBy giveBack nodes root mode list names code constants marks =
     let t : Tree = treeOf nodes list names in

@@ -1,4 +1,4 @@
--- "The smallest free register is taken": every register that the walk takes is what it answers for a node for which none was asked.
+-- "The smallest free register is taken": lowering a node for which no register is asked takes the smallest free one.
 use Prim.Native.Nat.{ℕ, _<_}
 use mathlib.Core.Path.{_≡_}
 use mathlib.Core.Bool.{true, false}
@@ -38,7 +38,8 @@ module _ (t : Tree) (E : ℕ → Dest → Walk Operand) (J : ℕ → Walk ℕ) w
   beforeRegister i (Node.PropertyAccess object property) = ret tt
   beforeRegister i (Node.Map first count) = ret tt
 
-  -- node i from m, no register asked for: where the answer is temporary r, r was the smallest free register when it was taken. (A name's register is its parameter's, a local.)
+  -- node i from m, no register asked for: where the answer is temporary r, r was the smallest free register when it was taken. (A name's register
+  -- is its parameter's, a local.)
   pub record Took (i r : ℕ) (m : Made) : Type 0 where
     pub when : Made
     pub before : beforeRegister i (node t i) m ≡ ends tt when

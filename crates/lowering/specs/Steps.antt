@@ -93,7 +93,7 @@ loadConstant c dest = do
 unfoldable pub withOffset : List ℕ → ℕ → ℕ → List ℕ
 withOffset code j o = set code (instructionWidth * j + offsetWord (getD code (instructionWidth * j) 0)) o
 
--- `patch_jump` of the walk: the jump at place j goes to the next instruction
+-- `patch_jump` of the walk: the jump at place j goes to the instruction that is emitted next
 unfoldable pub patchJump : ℕ → Walk Unit
 patchJump j m = ends tt (withCode (withOffset (m .code) j (m .state .instructions - j)) (m .state .instructions) m)
 

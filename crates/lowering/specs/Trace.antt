@@ -3,9 +3,10 @@
 use Prim.Native.Nat.{ℕ, _+_, _*_, _-_, _≤_, _<_}
 use mathlib.Core.Path.{_≡_}
 use mathlib.Core.Logic.{_≢_, _⊎_}
-use mathlib.Core.Bool.{true, false}
+use mathlib.Core.Bool.{true, false, cond}
 use mathlib.Core.List.{[], _∷_}
-use mathlib.Core.Option.{none}
+use mathlib.Core.Option.{Option, none, some}
+use lib.Dec.{eqb}
 use lib.ListN.{length, getD, set}
 use Rattle.diagnostics.specs.declared.Error.{Error}
 use Rattle.diagnostics.specs.declared.Refusal.{Refusal}
@@ -64,23 +65,24 @@ pub record JumpKind (kind : ℕ) : Type 0 where
 abbrev pub Marked : Made → Type 0
 Marked m = (k : ℕ) → k < marksOf m → getD (m .marks) k 0 < instructionsOf m
 
--- the constant that lowering a node may pool: a literal itself, the name of a name or of a property as a string, the nil of a block
-unfoldable pub constantOfNode : Node → Operand
-constantOfNode (Node.Number low high) = Operand.Number (numberOf low high)
-constantOfNode (Node.String symbol) = Operand.String symbol
-constantOfNode (Node.Boolean b) = Operand.Boolean b
-constantOfNode Node.Nil = Operand.Nil
-constantOfNode (Node.Identifier symbol) = Operand.String symbol
-constantOfNode (Node.Binary operator left right) = Operand.Nil
-constantOfNode (Node.Unary operator operand) = Operand.Nil
-constantOfNode (Node.LogicalNot operand) = Operand.Nil
-constantOfNode (Node.LogicalAnd left right) = Operand.Nil
-constantOfNode (Node.LogicalOr left right) = Operand.Nil
-constantOfNode (Node.If condition thenBranch elseBranch) = Operand.Nil
-constantOfNode (Node.Block tail) = Operand.Nil
-constantOfNode (Node.FunctionCall callee start count) = Operand.Nil
-constantOfNode (Node.PropertyAccess object property) = Operand.String property
-constantOfNode (Node.Map start count) = Operand.Nil
+-- the constant that lowering a node may pool: a literal itself, the name of a name or of a property as a string, the nil of a block without a
+-- tail; a node of another kind has none of its own
+unfoldable pub constantOfNode : Node → Option Operand
+constantOfNode (Node.Number low high) = some (Operand.Number (numberOf low high))
+constantOfNode (Node.String symbol) = some (Operand.String symbol)
+constantOfNode (Node.Boolean b) = some (Operand.Boolean b)
+constantOfNode Node.Nil = some Operand.Nil
+constantOfNode (Node.Identifier symbol) = some (Operand.String symbol)
+constantOfNode (Node.Binary operator left right) = none
+constantOfNode (Node.Unary operator operand) = none
+constantOfNode (Node.LogicalNot operand) = none
+constantOfNode (Node.LogicalAnd left right) = none
+constantOfNode (Node.LogicalOr left right) = none
+constantOfNode (Node.If condition thenBranch elseBranch) = none
+constantOfNode (Node.Block tail) = cond (eqb tail absent) (some Operand.Nil) none
+constantOfNode (Node.FunctionCall callee start count) = none
+constantOfNode (Node.PropertyAccess object property) = some (Operand.String property)
+constantOfNode (Node.Map start count) = none
 
 module _ (t : Tree) (root : ℕ) where
   -- a refusal that names a node, with its span: "place, span: the name; likewise at 11, 12 and 15"
@@ -91,7 +93,7 @@ module _ (t : Tree) (root : ℕ) where
   pub record Owned (c : Operand) : Type 0 where
     pub owner : ℕ
     pub reached : Reaches t root owner
-    pub its : c ≡ constantOfNode (node t owner)
+    pub its : constantOfNode (node t owner) ≡ some c
 
   -- Refusals 9 to 18, each with its place and span, under its own condition, of what was made where it stopped.
   pub data Own : Error → Made → Type 0 where

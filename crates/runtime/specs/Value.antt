@@ -38,7 +38,7 @@ tagBool = 4294901762
 abbrev pub tagString : ℕ
 tagString = 4294901763
 
--- value.rs, `union Value`: "parts: (u32, u32), // (.0 = payload/low, .1 = tag/high)"
+-- value.rs: 64 bits from two words, the payload low and the tag high
 abbrev pub partsBits : ℕ → ℕ → ℕ
 partsBits low high = 4294967296 * high + low
 
