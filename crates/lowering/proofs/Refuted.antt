@@ -3,6 +3,7 @@ use Prim.Native.Nat.{ℕ, zero, suc}
 use native.Mathlib.Omega.{arith}
 use mathlib.Core.Path.{_≡_, refl, sym, ap, _∙_}
 use mathlib.Core.Bool.{cond, false≢true}
+use mathlib.Core.Option.{some}
 use mathlib.Core.List.{List, [], _∷_}
 use lib.ListN.{getD, set, replicate}
 use lib.Ieee.{isNan, eq, lt, le, ofBits, toBits, nanBits}
@@ -28,14 +29,14 @@ use Rattle.lowering.specs.Lower.{source, sameRegister, nameOf, materiali
 use Rattle.lowering.specs.Operators.{binaryRR, binaryRK, binaryKR, unary, comparison, jumpRR, jumpRK, jumpKR, jumpIf}
 use Rattle.lowering.specs.Questions.{whole, question1, question2, question3, question4, question5, question6, allBelow, question7, question8, askNode, askNodes, questions}
 use Rattle.lowering.specs.Steps.{withRegisters, freeHeld, placed, registered, allocateTemp, freeTemp, destination, emit, store, loadConstant, withOffset, patchJump, mark, patchArgument, patchMarks, patchArguments}
-use Rattle.lowering.specs.Tree.{Tree, treeOf, present, entryNodes, children}
+use Rattle.lowering.specs.Tree.{Tree, treeOf, node, present, entryNodes, children}
 use Rattle.lowering.specs.Walk.{Made, made, Outcome, ends, stops, Walk, bind, _>>_, unnamed, left}
 use Rattle.lowering.specs.Result.{Lowered, result, leaves, begin, lowerRoot, answered, lowerChecked, lower}
 use Rattle.lowering.specs.Smallest.{beforeRegister, SmallestFirst}
-use Rattle.lowering.specs.Meaning.{Worth, worth, fails, undefined}
+use Rattle.lowering.specs.Meaning.{Worth, worth, fails, undefined, Named, first, later, Reaches, here, below}
 use Rattle.lowering.specs.Machine.{recordIn, fetch, constantAt, constantOf, target, action, returned, Registers, ended, act, stepAt, step, after}
 use Rattle.lowering.specs.Law.{Start, LawOf, runOf}
-use Rattle.lowering.specs.Trace.{registersOf, Held}
+use Rattle.lowering.specs.Trace.{registersOf, Held, constantOfNode, Owned}
 use Rattle.lowering.specs.Answers.{start, Stopped, Ended, Within}
 use Rattle.lowering.specs.Frame.{Frames}
 use Rattle.lowering.specs.Pool.{Fit}
@@ -246,3 +247,36 @@ smallest-first-refuted jump f =
     let k = f 0 1 unmade (withRegisters (without allFree 1) unmade) refl in
     let same : held allFree 0 ≡ held (k .when .state .registers) 0 = ap (λ o. held (left o .state .registers) 0) (k .before) in
     false≢true (sym (all-free 0) ∙ same ∙ k .smallest .smaller-held 0 (omega arith))
+
+-- ---- Pool: a constant is that of a node that the root reaches. Of x + y, whose nodes are names and an operator, nil is none.
+
+abbrev pub sumOfNames : Tree
+sumOfNames = record {
+  nodes = 4 ∷ 7 ∷ 0 ∷ 0 ∷ 0 ∷ 0 ∷ 4 ∷ 8 ∷ 0 ∷ 0 ∷ 0 ∷ 0 ∷ 5 ∷ 0 ∷ 0 ∷ 1 ∷ 0 ∷ 0 ∷ [];
+  list = [];
+  names = 7 ∷ 8 ∷ [];
+}
+
+-- not x, not y, and not their sum
+x-nil : (k : ℕ) → Reaches sumOfNames 0 k → constantOfNode (node sumOfNames k) ≡ some Operand.Nil → ⊥
+unfolding nodeAt nodeWord children constantOfNode
+x-nil k here e = let z : _≡_ {A = ℕ} 0 1 = cc in omega arith
+
+y-nil : (k : ℕ) → Reaches sumOfNames 1 k → constantOfNode (node sumOfNames k) ≡ some Operand.Nil → ⊥
+unfolding nodeAt nodeWord children constantOfNode
+y-nil k here e = let z : _≡_ {A = ℕ} 0 1 = cc in omega arith
+
+right-nil : (i k : ℕ) → Named i (1 ∷ []) → Reaches sumOfNames i k → constantOfNode (node sumOfNames k) ≡ some Operand.Nil → ⊥
+right-nil i k first r e = y-nil k r e
+
+operand-nil : (i k : ℕ) → Named i (0 ∷ 1 ∷ []) → Reaches sumOfNames i k → constantOfNode (node sumOfNames k) ≡ some Operand.Nil → ⊥
+operand-nil i k first r e = x-nil k r e
+operand-nil i k (later n) r e = right-nil i k n r e
+
+sum-nil : (k : ℕ) → Reaches sumOfNames 2 k → constantOfNode (node sumOfNames k) ≡ some Operand.Nil → ⊥
+unfolding nodeAt nodeWord children constantOfNode
+sum-nil k here e = let z : _≡_ {A = ℕ} 0 1 = cc in omega arith
+sum-nil k (below {j = i} n r) e = operand-nil i k n r e
+
+pub owned-refuted : Owned sumOfNames 2 Operand.Nil → ⊥
+owned-refuted o = sum-nil (o .owner) (o .reached) (o .its)
