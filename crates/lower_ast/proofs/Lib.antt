@@ -1,3 +1,4 @@
 mod Patches
 pub mod Marks
 pub mod Laws
+pub mod Refuted
