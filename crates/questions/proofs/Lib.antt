@@ -1,3 +1,4 @@
 mod Asked
 mod Below
+mod Part
 mod Tables

@@ -3,11 +3,12 @@
 ghost use mathlib.Core.Path.{_≡_};
 ghost use mathlib.Core.Bool.{true};
 ghost use mathlib.Core.List.{List};
-ghost use Prim.Native.Nat.{ℕ, _+_, _*_, _≤_};
+ghost use Prim.Native.Nat.{ℕ, _+_, _*_, _≤_, _<_};
 ghost use lib.ListN.{length, getD, take, drop};
 ghost use Rattle.words.specs.Words.{words};
+ghost use Rattle.words.specs.Records.{capacity};
 ghost use Rattle.syntax.specs.declared.ast.Node.{Node};
-ghost use Rattle.syntax.specs.Ast.{nodeKinds};
+ghost use Rattle.syntax.specs.Ast.{nodeKinds, nodeWidth};
 ghost use Rattle.lowering.specs.Tree.{present, entryNodes, children};
 ghost use Rattle.lowering.specs.Questions.{question1, question4, question5, question6, allBelow, Verdict, askNode, askNodes, questions};
 ghost use Rattle.lowering.specs.Tree.{treeOf};
@@ -16,10 +17,11 @@ use diagnostics::Refusal;
 use runtime::value::is_nan;
 use syntax::ast::ABSENT;
 use syntax::ast::NODE_WORDS;
-use syntax::ast::node_word;
 use syntax::kind;
 use words::capacity;
 use words::word;
+
+const NODE_BYTES: usize = 4 * NODE_WORDS;
 
 const MAX_NODES: usize = 4096;
 
@@ -50,7 +52,7 @@ fn sizes_fit(nodes: &[u8], list: &[u8], names: &[u8]) -> bool
     ensures { λ r. ⌜ r ≡ question1 (now (nodes .entry)) (now (list .entry)) (now (names .entry)) ⌝ }
 {
     let count = capacity(nodes, NODE_WORDS);
-    (nodes.len() % (4 * NODE_WORDS) == 0)
+    (nodes.len() % NODE_BYTES == 0)
         & (1 <= count)
         & (count <= MAX_NODES)
         & (list.len() % 4 == 0)
@@ -166,14 +168,19 @@ fn children_below(list: &[u8], i: u32, kind: u32, a: u32, b: u32, c: u32) -> boo
     }
 }
 
-// Questions 3 to 7 of node i.
+// Questions 3 to 7 of node i. Its words are read from its own bytes: of a slice of known length, the compiler leaves the test in `word` out. It also
+// makes one jump of the matches on the kind, so a node costs one jump and the comparisons of its kind, a call and a map too.
 fn check_node(nodes: &[u8], list: &[u8], i: u32) -> Checked
+    requires { ⌜ i < capacity nodeWidth (words (now nodes)) ⌝ }
     ensures { λ r. ⌜ ((names : List ℕ) (next : Verdict) → following r next ≡ askNode (treeOf (now (nodes .entry)) (now (list .entry)) names) i next) ⌝ }
 {
-    let kind = node_word(nodes, i, 0);
-    let a = node_word(nodes, i, 1);
-    let b = node_word(nodes, i, 2);
-    let c = node_word(nodes, i, 3);
+    let at = NODE_BYTES * (i as usize);
+    let end = at + NODE_BYTES;
+    let node = &nodes[at..end];
+    let kind = word(node, 0);
+    let a = word(node, 1);
+    let b = word(node, 2);
+    let c = word(node, 3);
     if LAST_KIND < kind {
         return Checked::Refused {
             refusal: Refusal::Kind,
@@ -209,6 +216,7 @@ fn check_node(nodes: &[u8], list: &[u8], i: u32) -> Checked
 
 // Questions 3 to 7 of each of `count` nodes, lowest first.
 fn check_nodes(nodes: &[u8], list: &[u8], count: u32) -> Checked
+    requires { ⌜ count ≤ capacity nodeWidth (words (now nodes)) ⌝ }
     ensures { λ r. ⌜ ((names : List ℕ) (next : Verdict) → following r next ≡ askNodes (treeOf (now (nodes .entry)) (now (list .entry)) names) count 0 next) ⌝ }
 {
     let mut i: u32 = 0;

@@ -9,15 +9,9 @@ use Rattle.questions.proofs.check.sizes_fit.Tie as tie
 capacity-requires : tie.Need-capacity-requires
 capacity-requires c κs = search needs
 
-mul-result : tie.Need-mul-result
-mul-result c = search needs
-
-rem-result : tie.Need-rem-result
-rem-result c = search needs
-
 returns : tie.Need-returns
 unfolding question1 whole
 returns c = rw (c .capacity .ensures, length-words (c .before .before .before .before .args .list .now))
 
 pub sizes-fit-spec : {M : Type 1} → statement M
-sizes-fit-spec = tie.close (tie.spec capacity-requires mul-result rem-result returns)
+sizes-fit-spec = tie.close (tie.spec capacity-requires returns)
