@@ -92,13 +92,13 @@ module _ (names : List ℕ) where
   abbrev pub askLast : Verdict
   askLast = ask (question8 (length (words names))) Refusal.Parameters 0 passed
 
-  pub last-passed : length names / 4 ≤ 256 → passed ≡ askLast
+  pub last-passed : not (leb (length names / 4) 256) ≡ false → passed ≡ askLast
   unfolding question8
-  last-passed h = rw (length-words names, le-leb (length names / 4) 256 h)
+  last-passed h = rw (length-words names, not-false (leb (length names / 4) 256) h)
 
-  pub last-refused : 256 < length names / 4 → refused Refusal.Parameters 0 ≡ askLast
+  pub last-refused : not (leb (length names / 4) 256) ≡ true → refused Refusal.Parameters 0 ≡ askLast
   unfolding question8
-  last-refused h = rw (length-words names, lt-leb (length names / 4) 256 h)
+  last-refused h = rw (length-words names, not-true (leb (length names / 4) 256) h)
 
 module _ (nodes list names : List ℕ) (mode root : ℕ) where
   pub refused-size : question1 nodes list names ≡ false → refused Refusal.Size 0 ≡ questions nodes list names mode root

@@ -252,7 +252,8 @@ pub fn check(nodes: &[u8], list: &[u8], names: &[u8], mode: u32, root: u32) -> C
     if let Checked::Refused { .. } = answer {
         return answer;
     }
-    if MAX_PARAMETERS < names.len() / 4 {
+    let parameters_fit = names.len() / 4 <= MAX_PARAMETERS;
+    if !parameters_fit {
         return Checked::Refused {
             refusal: Refusal::Parameters,
             place: 0,

@@ -1,6 +1,7 @@
 -- `questions::check::children_below` meets its contract, kind by kind. Question 6 says that the part of the list that is read is inside it.
 -- Assumes nothing.
 use mathlib.Core.Path.{sym}
+use native.Mathlib.Omega.{arith}
 use borrow.Author.Tests.{lt-ltb, le-ltb}
 use Rattle.lowering.specs.Tree.{children}
 use Rattle.lowering.specs.Questions.{allBelow}
@@ -52,11 +53,11 @@ returns-7 c = rw (c .before .match .keys7) (c .absent-or-below2 .ensures)
 
 returns-8 : tie.Need-returns-8
 unfolding children allBelow
-returns-8 c = rw (c .before .before .match .keys8, lt-ltb (c .before .before .before .before .args .a) (c .before .before .before .before .args .i) (c .before .if1 .taken)) (c .arguments-below .ensures)
+returns-8 c = rw (c .before .before .match .keys8, lt-ltb (c .before .before .before .before .args .a) (c .before .before .before .before .args .i) (omega arith)) (c .arguments-below .ensures)
 
 returns-9 : tie.Need-returns-9
 unfolding children allBelow
-returns-9 c = rw (c .before .match .keys8, le-ltb (c .before .before .before .args .a) (c .before .before .before .args .i) (c .if1 .left))
+returns-9 c = rw (c .before .match .keys8, le-ltb (c .before .before .before .args .a) (c .before .before .before .args .i) (omega arith))
 
 returns-10 : tie.Need-returns-10
 unfolding children
