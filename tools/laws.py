@@ -27,7 +27,7 @@ def declared(files, pattern):
 
 
 ANTT = r"\s*(?:(?:pub|abbrev|unfoldable|record|data)\s+)*([^\s:(){}]+)(?=\s*[:({]|\s+\()"
-RATTLE = r'\s*(?:pub )?(?:extern "C" )?(?:fn|struct|enum|const) (\w+)'
+RATTLE = r'\s*(?:pub(?:\(crate\))? )?(?:extern "C" )?(?:fn|struct|enum|const) (\w+)'
 SPECS = declared(CRATES.glob("*/specs/*.antt"), ANTT)
 PROOFS = declared(CRATES.glob("*/proofs/*.antt"), ANTT)
 CODE = declared(CRATES.glob("*/src/*.rt"), RATTLE)

@@ -16,26 +16,20 @@ use Rattle.runtime.specs.Instruction.{offsetWord}
 use Rattle.lowering.specs.Questions.{whole, question1, question2, question3, question4, question5, question6, allBelow, question7, question8, Verdict, passed, refused, askNode, askNodes, questions}
 use Rattle.lowering.specs.Tree.{present, entryNodes, children}
 use Rattle.lowering.specs.Walk.{error}
-use Rattle.lowering.specs.Result.{Lowered, result, answered}
+use Rattle.lowering.specs.Result.{answered}
 use Rattle.lowering.specs.Checked.{AllYes, FirstNo}
-use Rattle.lowering.specs.Answers.{Untouched, StopsWith, Tells, MayPatch, MayNot, index-past, count-past, kind-below, kind-past, OneWord}
+use Rattle.lowering.specs.Answers.{MayPatch, MayNot, index-past, count-past, kind-below, kind-past, OneWord}
 use Rattle.lowering.proofs.Checked.{questions-passed, questions-refused}
-use Rattle.lowering.specs.Examples.{pageNodes}
-use Rattle.lowering.proofs.Refuted.{noElse, noElseWith, noElseCode, halted, no-else-right}
+use Rattle.lowering.specs.Examples.{pageNodes, pageNames, wrongKind, refusedWith, UntouchedOf, StopsWithOf, TellsOf, jumpReturn}
+use Rattle.lowering.proofs.Refuted.{no-else-right}
 
 -- ---- 1 to 8: the worked page with kind 15 at node 1, which is 3 there
 
-abbrev pub wrongKind : List ℕ
-wrongKind = bytesOf (set pageNodes 6 15)
-
-abbrev pub name : List ℕ
-name = bytesOf (7 ∷ [])
-
-wrong-asked : questions wrongKind [] name 0 5 ≡ refused Refusal.Kind 1
+wrong-asked : questions wrongKind [] pageNames 0 5 ≡ refused Refusal.Kind 1
 unfolding nanBits capacity wordOf words tail bytesOf nodeWord nodeAt binaryOp unaryOp whole question1 question2 question3 question4 question5 question6 allBelow question7 question8 askNode askNodes questions present entryNodes children
 wrong-asked = refl
 
-page-asked : questions (bytesOf pageNodes) [] name 0 5 ≡ passed
+page-asked : questions (bytesOf pageNodes) [] pageNames 0 5 ≡ passed
 unfolding nanBits capacity wordOf words tail bytesOf nodeWord nodeAt binaryOp unaryOp whole question1 question2 question3 question4 question5 question6 allBelow question7 question8 askNode askNodes questions present entryNodes children
 page-asked = refl
 
@@ -49,30 +43,24 @@ verdictPlace passed = 0
 verdictPlace (refused r place) = place
 
 -- another refusal, and another place
-pub first-no-number-refuted : FirstNo wrongKind [] name 0 5 Refusal.Unused 1 → ⊥
+pub first-no-number-refuted : FirstNo wrongKind [] pageNames 0 5 Refusal.Unused 1 → ⊥
 unfolding verdictNumber
-first-no-number-refuted h = omega (arith, ap verdictNumber (sym wrong-asked ∙ questions-refused wrongKind [] name 0 5 Refusal.Unused 1 .1 h))
+first-no-number-refuted h = omega (arith, ap verdictNumber (sym wrong-asked ∙ questions-refused wrongKind [] pageNames 0 5 Refusal.Unused 1 .1 h))
 
-pub first-no-place-refuted : FirstNo wrongKind [] name 0 5 Refusal.Kind 2 → ⊥
+pub first-no-place-refuted : FirstNo wrongKind [] pageNames 0 5 Refusal.Kind 2 → ⊥
 unfolding verdictPlace
-first-no-place-refuted h = omega (arith, ap verdictPlace (sym wrong-asked ∙ questions-refused wrongKind [] name 0 5 Refusal.Kind 2 .1 h))
+first-no-place-refuted h = omega (arith, ap verdictPlace (sym wrong-asked ∙ questions-refused wrongKind [] pageNames 0 5 Refusal.Kind 2 .1 h))
 
 -- the page itself is refused by no question
-pub first-no-page-refuted : FirstNo (bytesOf pageNodes) [] name 0 5 Refusal.Kind 1 → ⊥
+pub first-no-page-refuted : FirstNo (bytesOf pageNodes) [] pageNames 0 5 Refusal.Kind 1 → ⊥
 unfolding verdictNumber
-first-no-page-refuted h = omega (arith, ap verdictNumber (sym page-asked ∙ questions-refused (bytesOf pageNodes) [] name 0 5 Refusal.Kind 1 .1 h))
+first-no-page-refuted h = omega (arith, ap verdictNumber (sym page-asked ∙ questions-refused (bytesOf pageNodes) [] pageNames 0 5 Refusal.Kind 1 .1 h))
 
-pub all-yes-refuted : AllYes wrongKind [] name 0 5 → ⊥
+pub all-yes-refuted : AllYes wrongKind [] pageNames 0 5 → ⊥
 unfolding verdictNumber
-all-yes-refuted y = omega (arith, ap verdictNumber (sym wrong-asked ∙ questions-passed wrongKind [] name 0 5 .1 y))
+all-yes-refuted y = omega (arith, ap verdictNumber (sym wrong-asked ∙ questions-passed wrongKind [] pageNames 0 5 .1 y))
 
 -- writes nothing: one word of a buffer, or a count
-abbrev pub UntouchedOf : Lowered → Type 0
-UntouchedOf = Untouched wrongKind 5 0 [] name (replicate 32 9) (replicate 12 9) (replicate 2 9)
-
-abbrev pub refusedWith : ℕ → ℕ → List ℕ → List ℕ → List ℕ → Lowered
-refusedWith instructions constants code pool marks = record { result = result 3 1 0 0 instructions constants 0 0; code = code; constants = pool; marks = marks }
-
 pub untouched-code-refuted : UntouchedOf (refusedWith 0 0 (set (replicate 32 9) 31 8) (replicate 12 9) (replicate 2 9)) → ⊥
 untouched-code-refuted u = omega (arith, ap (λ ws. getD ws 31 0) (u .code-same))
 
@@ -86,12 +74,6 @@ pub untouched-count-refuted : UntouchedOf (refusedWith 1 0 (replicate 32 9) (rep
 untouched-count-refuted u = omega (arith, u .no-instructions)
 
 -- ---- 9 to 18: `if x 1`, no else, which is 11 at node 2, its span 11 to 12
-
-abbrev pub StopsWithOf : Error → Type 0
-StopsWithOf = StopsWith (bytesOf noElse) 2 0 [] name (replicate 32 9) (replicate 12 9) (replicate 2 9)
-
-abbrev pub TellsOf : Error → Type 0
-TellsOf = Tells (bytesOf noElse) 2 0 [] name (replicate 32 9) (replicate 12 9) (replicate 2 9) (result 11 2 11 12 3 1 0 0)
 
 -- what it stops with shows its number, place and span
 stops-number : {e : Error} → StopsWithOf e → numberOf (e .refusal) ≡ 11
@@ -128,9 +110,6 @@ pub tells-end-refuted : TellsOf (error Refusal.Else 2 11 13) → ⊥
 tells-end-refuted k = omega (arith, k .end)
 
 -- ---- patching: a jump at 0, whose offset is word 1, and a Return at 1
-
-abbrev pub jumpReturn : List ℕ
-jumpReturn = 41 ∷ 0 ∷ 0 ∷ 0 ∷ 40 ∷ 1 ∷ 0 ∷ 0 ∷ []
 
 -- the Return may not be patched, nor the jump where none of the code is given, or more than there is
 pub may-patch-return-refuted : MayPatch jumpReturn 2 1 7 → ⊥

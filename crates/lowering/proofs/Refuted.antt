@@ -4,7 +4,7 @@ use native.Mathlib.Omega.{arith}
 use mathlib.Core.Path.{_≡_, refl, sym, ap, _∙_}
 use mathlib.Core.Bool.{cond, false≢true}
 use mathlib.Core.Option.{some}
-use mathlib.Core.List.{List, [], _∷_}
+use mathlib.Core.List.{[], _∷_}
 use lib.ListN.{getD, set, replicate}
 use lib.Ieee.{isNan, eq, lt, le, ofBits, toBits, nanBits}
 use Rattle.words.specs.Records.{capacity, recordAt, putRecord, sameWords, isAt, positionFrom, position, append}
@@ -24,38 +24,24 @@ use Rattle.runtime.specs.Function.{emitInstruction, storeConstant}
 use Rattle.runtime.specs.Instruction.{wordsOf, hasDestination, offsetWord, decode}
 use Rattle.runtime.specs.Operands.{regOf}
 use Rattle.runtime.specs.Value.{numberOf, constantWords}
-use Rattle.lowering.specs.declared.Dest.{Dest}
 use Rattle.lowering.specs.Lower.{source, sameRegister, nameOf, materialized, lowerMaterializing, moved, named, binarySources, lowerArguments, storeNamed, storeKeyed, lowerEntry, lowerEntries, lowerElse, lowerTail, lowerNode, tested, fusedSources, fused, jumpNode, lowerExpression, lowerJumpIfFalse, lowerJumpIfTrue, expressionBelow, jumpBelow}
 use Rattle.lowering.specs.Operators.{binaryRR, binaryRK, binaryKR, unary, comparison, jumpRR, jumpRK, jumpKR, jumpIf}
 use Rattle.lowering.specs.Questions.{whole, question1, question2, question3, question4, question5, question6, allBelow, question7, question8, askNode, askNodes, questions}
 use Rattle.lowering.specs.Steps.{withRegisters, freeHeld, placed, registered, allocateTemp, freeTemp, destination, emit, store, loadConstant, withOffset, patchJump, mark, patchArgument, patchMarks, patchArguments}
-use Rattle.lowering.specs.Tree.{Tree, treeOf, node, present, entryNodes, children}
+use Rattle.lowering.specs.Tree.{treeOf, node, present, entryNodes, children}
 use Rattle.lowering.specs.Walk.{Made, made, Outcome, ends, stops, Walk, bind, _>>_, unnamed, left}
-use Rattle.lowering.specs.Result.{Lowered, result, leaves, begin, lowerRoot, answered, lowerChecked, lower}
+use Rattle.lowering.specs.Result.{Lowered, leaves, begin, lowerRoot, answered, lowerChecked, lower}
 use Rattle.lowering.specs.Smallest.{beforeRegister, SmallestFirst}
 use Rattle.lowering.specs.Meaning.{Worth, worth, fails, undefined, Named, first, later, Reaches, here, below}
 use Rattle.lowering.specs.Machine.{recordIn, fetch, constantAt, constantOf, target, action, returned, Registers, ended, act, stepAt, step, after}
 use Rattle.lowering.specs.Law.{Start, LawOf, runOf}
 use Rattle.lowering.specs.Trace.{registersOf, Held, constantOfNode, Owned}
-use Rattle.lowering.specs.Answers.{start, Stopped, Ended, Within}
-use Rattle.lowering.specs.Frame.{Frames}
-use Rattle.lowering.specs.Pool.{Fit}
+use Rattle.lowering.specs.Answers.{start}
 use Rattle.lowering.specs.Instance.{Datum, number, string, boolean, nil, Mismatch, ieee, compared, numbers, alike, truthful}
-use Rattle.lowering.specs.Examples.{pageNodes, pageTree, one, two}
+use Rattle.lowering.specs.Examples.{pageNodes, pageTree, one, two, pageCode, pageConstants, pageWith, EndedOf, WithinOf, FramesOf, FitOf, noElse, noElseCode, noElseWith, StoppedOf, literal, takesOne, sumOfNames}
 use Rattle.lowering.proofs.Instance.{page-start, page-worth}
 
--- ---- the worked page, as `Cases` has it, in buffers whose words are 9
-
-abbrev pageCode : List ℕ
-pageCode = 49 ∷ 0 ∷ 0 ∷ 3 ∷ 26 ∷ 1 ∷ 1 ∷ 0 ∷ 41 ∷ 2 ∷ 0 ∷ 0 ∷ 26 ∷ 1 ∷ 2 ∷ 0 ∷ 40 ∷ 1 ∷ 0 ∷ 0 ∷ replicate 12 9
-
-abbrev pageConstants : List ℕ
-pageConstants = 2 ∷ 0 ∷ 1074266112 ∷ 2 ∷ 0 ∷ 1072693248 ∷ 2 ∷ 0 ∷ 1073741824 ∷ replicate 3 9
-
--- it, with any instructions, constants and frame size, and any words
-abbrev pub pageWith : ℕ → ℕ → ℕ → List ℕ → List ℕ → Lowered
-pageWith instructions constants frameSize code pool =
-    record { result = result 0 0 0 0 instructions constants frameSize 1; code = code; constants = pool; marks = replicate 2 9 }
+-- ---- the worked page
 
 abbrev pub fromPage : Made
 fromPage = start (bytesOf pageNodes) 5 0 [] (bytesOf (7 ∷ [])) (replicate 32 9) (replicate 12 9) (replicate 2 9)
@@ -101,17 +87,11 @@ page-frame : left walked .state .registers .«frame_size» ≡ 2
 unfolding left ofBits toBits nanBits capacity recordAt putRecord sameWords isAt positionFrom position append wordOf words tail bytesOf bit clear flip found allocated freed parameters lookup free takeOut putBack smallestFrom smallestFree allFree without taken givenBack nodeWord nodeAt binaryOp unaryOp emitInstruction storeConstant wordsOf hasDestination offsetWord regOf numberOf constantWords source sameRegister nameOf materialized lowerMaterializing moved named binarySources lowerArguments storeNamed storeKeyed lowerEntry lowerEntries lowerElse lowerTail lowerNode tested fusedSources fused jumpNode lowerExpression lowerJumpIfFalse lowerJumpIfTrue expressionBelow jumpBelow binaryRR binaryRK binaryKR unary comparison jumpRR jumpRK jumpKR jumpIf whole question1 question2 question3 question4 question5 question6 allBelow question7 question8 askNode askNodes questions begin lowerRoot answered lowerChecked lower placed registered allocateTemp freeTemp destination emit store loadConstant withOffset patchJump mark patchArgument patchMarks patchArguments present entryNodes children bind
 page-frame = refl
 
-abbrev pub FramesOf : Lowered → Type 1
-FramesOf = Frames (bytesOf pageNodes) 5 0 [] (bytesOf (7 ∷ [])) (replicate 32 9) (replicate 12 9) (replicate 2 9)
-
 pub frames-refuted : FramesOf (pageWith 5 3 3 pageCode pageConstants) → ⊥
 unfolding left
 frames-refuted f =
     let same : left walked .state .registers .«frame_size» ≡ f .made .state .registers .«frame_size» = ap (λ o. left o .state .registers .«frame_size») (f .is) in
     omega (arith, f .size, page-frame)
-
-abbrev pub FitOf : Lowered → Type 0
-FitOf = Fit (bytesOf pageNodes) 5 0 [] (bytesOf (7 ∷ [])) (replicate 32 9) (replicate 12 9) (replicate 2 9)
 
 pub fit-register-refuted : FitOf (pageWith 5 3 2 (set pageCode 5 256) pageConstants) → ⊥
 fit-register-refuted f = omega (arith, f .fields-fit 1 (omega arith) .0)
@@ -132,18 +112,12 @@ page-word : getD (left walked .code) 3 0 ≡ 3
 unfolding left ofBits toBits nanBits capacity recordAt putRecord sameWords isAt positionFrom position append wordOf words tail bytesOf bit clear flip found allocated freed parameters lookup free takeOut putBack smallestFrom smallestFree allFree without taken givenBack nodeWord nodeAt binaryOp unaryOp emitInstruction storeConstant wordsOf hasDestination offsetWord regOf numberOf constantWords source sameRegister nameOf materialized lowerMaterializing moved named binarySources lowerArguments storeNamed storeKeyed lowerEntry lowerEntries lowerElse lowerTail lowerNode tested fusedSources fused jumpNode lowerExpression lowerJumpIfFalse lowerJumpIfTrue expressionBelow jumpBelow binaryRR binaryRK binaryKR unary comparison jumpRR jumpRK jumpKR jumpIf whole question1 question2 question3 question4 question5 question6 allBelow question7 question8 askNode askNodes questions begin lowerRoot answered lowerChecked lower placed registered allocateTemp freeTemp destination emit store loadConstant withOffset patchJump mark patchArgument patchMarks patchArguments present entryNodes children bind
 page-word = refl
 
-abbrev pub EndedOf : Lowered → Type 1
-EndedOf = Ended (bytesOf pageNodes) 5 0 [] (bytesOf (7 ∷ [])) (replicate 32 9) (replicate 12 9) (replicate 2 9)
-
 pub ended-refuted : EndedOf (pageWith 5 3 2 (set pageCode 3 4) pageConstants) → ⊥
 unfolding left
 ended-refuted e =
     let shown : _≡_ {A = ℕ} 4 (getD (e .made .code) 3 0) = ap (λ x. getD (x .code) 3 0) (e .shown) in
     let same : getD (left walked .code) 3 0 ≡ getD (e .made .code) 3 0 = ap (λ o. getD (left o .code) 3 0) (e .is) in
     omega (arith, page-word)
-
-abbrev pub WithinOf : Lowered → Type 0
-WithinOf = Within (bytesOf pageNodes) 5 0 [] (bytesOf (7 ∷ [])) (replicate 32 9) (replicate 12 9) (replicate 2 9)
 
 pub within-refuted : WithinOf (pageWith 5 3 2 (set pageCode 20 8) pageConstants) → ⊥
 within-refuted w = omega (arith, w .code-past 20 (omega arith))
@@ -154,27 +128,9 @@ within-count-refuted w = omega (arith, w .code-fits)
 
 -- ---- 11: `if x 1`, no else (x alone), its span 11 to 12
 
-abbrev pub noElse : List ℕ
-noElse = 4 ∷ 7 ∷ 0 ∷ 0 ∷ 0 ∷ 0 ∷ 0 ∷ 0 ∷ 1072693248 ∷ 0 ∷ 0 ∷ 0 ∷ 10 ∷ 0 ∷ 1 ∷ 4294967295 ∷ 11 ∷ 12 ∷ []
-
-abbrev pub StoppedOf : Lowered → Type 0
-StoppedOf = Stopped (bytesOf noElse) 2 0 [] (bytesOf (7 ∷ [])) (replicate 32 9) (replicate 12 9) (replicate 2 9)
-
 abbrev pub halted : Outcome ℕ
 halted = lowerRoot freeTemp (treeOf (bytesOf noElse) [] (bytesOf (7 ∷ []))) 0 2
     (start (bytesOf noElse) 2 0 [] (bytesOf (7 ∷ [])) (replicate 32 9) (replicate 12 9) (replicate 2 9))
-
--- place and span end of a refusal, and the words that it leaves
-abbrev pub noElseWith : ℕ → ℕ → ℕ → List ℕ → Lowered
-noElseWith refusal place end code = record {
-  result = result refusal place 11 end 3 1 0 0;
-  code = code;
-  constants = 2 ∷ 0 ∷ 1072693248 ∷ replicate 9 9;
-  marks = replicate 2 9;
-}
-
-abbrev pub noElseCode : List ℕ
-noElseCode = 42 ∷ 0 ∷ 3 ∷ 0 ∷ 26 ∷ 1 ∷ 0 ∷ 0 ∷ 41 ∷ 0 ∷ 0 ∷ 0 ∷ replicate 20 9
 
 pub no-else-right : answered 1 halted ≡ noElseWith 11 2 12 noElseCode
 unfolding ofBits toBits nanBits capacity recordAt putRecord sameWords isAt positionFrom position append wordOf words tail bytesOf bit clear flip found allocated freed parameters lookup free takeOut putBack smallestFrom smallestFree allFree without taken givenBack nodeWord nodeAt binaryOp unaryOp emitInstruction storeConstant wordsOf hasDestination offsetWord regOf numberOf constantWords source sameRegister nameOf materialized lowerMaterializing moved named binarySources lowerArguments storeNamed storeKeyed lowerEntry lowerEntries lowerElse lowerTail lowerNode tested fusedSources fused jumpNode lowerExpression lowerJumpIfFalse lowerJumpIfTrue expressionBelow jumpBelow binaryRR binaryRK binaryKR unary comparison jumpRR jumpRK jumpKR jumpIf whole question1 question2 question3 question4 question5 question6 allBelow question7 question8 askNode askNodes questions begin lowerRoot answered lowerChecked lower placed registered allocateTemp freeTemp destination emit store loadConstant withOffset patchJump mark patchArgument patchMarks patchArguments present entryNodes children bind
@@ -197,7 +153,7 @@ stopped-span-refuted s = omega (arith, ap (λ x. x .result .end) (stopped-shows 
 pub stopped-word-refuted : StoppedOf (noElseWith 11 2 12 (set noElseCode 2 2)) → ⊥
 stopped-word-refuted s = omega (arith, ap (λ x. getD (x .code) 2 0) (stopped-shows s))
 
--- ---- Given back once: two give-backs of a held register are one to `freeTemp`, and `freeHeld` stops at the second
+-- ---- Given back once: of two give-backs of a held register `freeTemp` makes both, and `freeHeld` stops at the second
 
 isStop : Outcome Unit → ℕ
 isStop (ends a n) = 0
@@ -235,12 +191,6 @@ module _ (m : Made) (r : ℕ) (sound : Sound (registersOf m)) (h : Held m r) whe
 abbrev unmade : Made
 unmade = made [] [] [] (record { registers = allFree; instructions = 0; constants = 0; marks = 0 })
 
-abbrev literal : Tree
-literal = record { nodes = []; list = []; names = [] }
-
-abbrev takesOne : ℕ → Dest → Walk Operand
-takesOne i dest m = ends (Operand.Register (Register.Temp 1)) (withRegisters (without (registersOf m) 1) m)
-
 pub smallest-first-refuted : (jump : ℕ → Walk ℕ) → SmallestFirst literal takesOne jump → ⊥
 unfolding lowerMaterializing materialized source bind beforeRegister nodeAt nodeWord left
 smallest-first-refuted jump f =
@@ -249,13 +199,6 @@ smallest-first-refuted jump f =
     false≢true (sym (all-free 0) ∙ same ∙ k .smallest .smaller-held 0 (omega arith))
 
 -- ---- Pool: a constant is that of a node that the root reaches. Of x + y, whose nodes are names and an operator, nil is none.
-
-abbrev pub sumOfNames : Tree
-sumOfNames = record {
-  nodes = 4 ∷ 7 ∷ 0 ∷ 0 ∷ 0 ∷ 0 ∷ 4 ∷ 8 ∷ 0 ∷ 0 ∷ 0 ∷ 0 ∷ 5 ∷ 0 ∷ 0 ∷ 1 ∷ 0 ∷ 0 ∷ [];
-  list = [];
-  names = 7 ∷ 8 ∷ [];
-}
 
 -- not x, not y, and not their sum
 x-nil : (k : ℕ) → Reaches sumOfNames 0 k → constantOfNode (node sumOfNames k) ≡ some Operand.Nil → ⊥
