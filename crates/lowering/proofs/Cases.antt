@@ -1,6 +1,4 @@
--- The worked page of document 01, its starred cases, and seventeen more whose answers are kaori's own (`answer` of the oracle), for calls and maps,
--- which the running law leaves out, divide and modulo, and modes 1 and 2: one table with one theorem. In each case the buffers have place for eight instructions, four constants and two marks, all
--- words 9 at entry, so that the table says too what is left past the counts. Parameters x, y are symbols 7 and 8, z is 9, p is 5. Assumes nothing.
+-- The table of worked cases (specs/Cases): the worked page of document 01, its starred cases, and more. Assumes nothing.
 use mathlib.Core.Path.{_≡_, refl}
 use mathlib.Core.List.{map}
 use lib.Ieee.{ofBits, toBits, nanBits, ofFields, odd, size, climb, span}

@@ -1,6 +1,7 @@
--- The worked page of document 01, its starred cases ("* with the page above: to be proved"), and seventeen more whose answers are kaori's own (`answer`
--- of the oracle), for calls and maps, which the running law leaves out, divide and modulo, and modes 1 and 2: one table. In each case the buffers have place for eight instructions, four constants and
--- two marks, all words 9 at entry, so that the table says too what is left past the counts. Parameters x, y are symbols 7 and 8, z is 9, p is 5.
+-- The worked page of document 01, its starred cases ("* with the page above: to be proved"), more whose answers are kaori's own (`answer` of the oracle),
+-- for calls and maps, which the running law leaves out, for divide and modulo, for modes 1 and 2 and for registers held and given back, and two that are
+-- refused before the walk: one table. In each case the buffers have room for eight instructions, four constants and two marks, all words 9 at entry, so that
+-- the table says too what is left past the counts. Parameters x, y are symbols 7 and 8, z is 9, p is 5.
 use Prim.Native.Nat.{ℕ, _-_}
 use mathlib.Core.List.{List, [], _∷_, _++_}
 use lib.ListN.{length, replicate}
@@ -387,6 +388,62 @@ cases =
       gives = result 0 3 0 0 4 2 3 0;
       code = 26 ∷ 1 ∷ 0 ∷ 0 ∷ 26 ∷ 2 ∷ 1 ∷ 0 ∷ 13 ∷ 0 ∷ 1 ∷ 2 ∷ 43 ∷ 0 ∷ 0 ∷ 0 ∷ [];
       constants = 2 ∷ 0 ∷ 1072693248 ∷ 2 ∷ 0 ∷ 1073741824 ∷ [];
+      marks = [];
+    }
+    -- if x and y, y else x: the condition's register, 2, stays held, so the if's is 3
+    ∷ record {
+      nodes = 4 ∷ 7 ∷ 0 ∷ 0 ∷ 0 ∷ 0 ∷ 4 ∷ 8 ∷ 0 ∷ 0 ∷ 0 ∷ 0 ∷ 8 ∷ 0 ∷ 1 ∷ 0 ∷ 0 ∷ 0 ∷ 10 ∷ 2 ∷ 1 ∷ 0 ∷ 0 ∷ 0 ∷ [];
+      list = [];
+      names = 7 ∷ 8 ∷ [];
+      mode = 0;
+      root = 3;
+      gives = result 0 0 0 0 8 0 4 2;
+      code = 25 ∷ 2 ∷ 0 ∷ 0 ∷ 42 ∷ 2 ∷ 2 ∷ 0 ∷ 25 ∷ 2 ∷ 1 ∷ 0 ∷ 42 ∷ 2 ∷ 3 ∷ 0 ∷ 25 ∷ 3 ∷ 1 ∷ 0 ∷ 41 ∷ 2 ∷ 0 ∷ 0 ∷ 25 ∷ 3 ∷ 0 ∷ 0 ∷ 40 ∷ 3 ∷ 0 ∷ 0 ∷ [];
+      constants = [];
+      marks = [];
+    }
+    -- (not x + not y) + (not y + not x): both operands' registers are given back, so 5 is taken twice
+    ∷ record {
+      nodes =
+          4 ∷ 7 ∷ 0 ∷ 0 ∷ 0 ∷ 0
+          ∷ 7 ∷ 0 ∷ 0 ∷ 0 ∷ 0 ∷ 0
+          ∷ 4 ∷ 8 ∷ 0 ∷ 0 ∷ 0 ∷ 0
+          ∷ 7 ∷ 2 ∷ 0 ∷ 0 ∷ 0 ∷ 0
+          ∷ 5 ∷ 0 ∷ 1 ∷ 3 ∷ 0 ∷ 0
+          ∷ 5 ∷ 0 ∷ 3 ∷ 1 ∷ 0 ∷ 0
+          ∷ 5 ∷ 0 ∷ 4 ∷ 5 ∷ 0 ∷ 0 ∷ [];
+      list = [];
+      names = 7 ∷ 8 ∷ [];
+      mode = 0;
+      root = 6;
+      gives = result 0 0 0 0 8 0 7 2;
+      code = 23 ∷ 4 ∷ 0 ∷ 0 ∷ 23 ∷ 5 ∷ 1 ∷ 0 ∷ 0 ∷ 3 ∷ 4 ∷ 5 ∷ 23 ∷ 5 ∷ 1 ∷ 0 ∷ 23 ∷ 6 ∷ 0 ∷ 0 ∷ 0 ∷ 4 ∷ 5 ∷ 6 ∷ 0 ∷ 2 ∷ 3 ∷ 4 ∷ 40 ∷ 2 ∷ 0 ∷ 0 ∷ [];
+      constants = [];
+      marks = [];
+    }
+    -- ---- refused before the walk: document 01's numbers
+    -- minus zero: 5
+    ∷ record {
+      nodes = 0 ∷ 0 ∷ 2147483648 ∷ 0 ∷ 11 ∷ 12 ∷ [];
+      list = [];
+      names = [];
+      mode = 0;
+      root = 0;
+      gives = result 5 0 0 0 0 0 0 0;
+      code = [];
+      constants = [];
+      marks = [];
+    }
+    -- a call of itself, with one argument and no list: 6 is asked before 7
+    ∷ record {
+      nodes = 12 ∷ 0 ∷ 0 ∷ 1 ∷ 11 ∷ 12 ∷ [];
+      list = [];
+      names = [];
+      mode = 0;
+      root = 0;
+      gives = result 6 0 0 0 0 0 0 0;
+      code = [];
+      constants = [];
       marks = [];
     }
     ∷ []

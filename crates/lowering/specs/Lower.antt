@@ -223,10 +223,10 @@ module _ (giveBack : Register → Walk Unit) (t : Tree) where
       emit (binaryKR operator (regOf d) src1 (regOf src2))
       giveBack src2
       ret (Operand.Register d)
-    binarySources operator left right d (register src1) (register src2) = do
-      emit (binaryRR operator (regOf d) (regOf src1) (regOf src2))
-      giveBack src1
-      giveBack src2
+    binarySources operator left right d (register a) (register b) = do
+      emit (binaryRR operator (regOf d) (regOf a) (regOf b))
+      giveBack a
+      giveBack b
       ret (Operand.Register d)
 
     -- `lower_expression` of node i
