@@ -1,4 +1,3 @@
 pub mod Ready
 pub mod Numbers
-pub mod Written
 pub mod Laws

@@ -1,5 +1,4 @@
 // Lowering a tree (kaori's codegen/lower_ast.rs): the questions, the walk from the root by the mode, and the arguments patched.
-pub mod exports;
 mod lower_expression;
 
 ghost use mathlib.Core.Path.{_≡_};
@@ -12,7 +11,7 @@ ghost use Rattle.lowering.specs.Questions.{passed, questions};
 ghost use Rattle.lowering.specs.Walk.{made, bind, ret};
 ghost use Rattle.lowering.specs.Steps.{freeTemp, patchArguments};
 ghost use Rattle.lowering.specs.Lower.{jumpNode, lowerExpression};
-ghost use Rattle.lowering.specs.Result.{lowerRoot, lower};
+ghost use Rattle.lowering.specs.Result.{numbersOf, lowerRoot, lower};
 ghost use Rattle.steps.specs.declared.answer.Answer.{Answer};
 ghost use Rattle.steps.specs.Answers.{seen, answered};
 ghost use Rattle.codegen.specs.Ready.{Ready};
@@ -25,6 +24,7 @@ use environment::RegisterSet;
 use lower_ast::Patched;
 use lower_ast::patch_arguments;
 use lowering::Dest;
+use lowering::RESULT_WORDS;
 use lowering::State;
 use questions::check::Checked;
 use questions::check::check;
@@ -51,6 +51,22 @@ pub struct Result {
     pub constants: u32,
     pub frame_size: u32,
     pub arity: u32,
+}
+
+// The eight numbers, in document 01's order.
+pub fn numbers_of(r: Result) -> [u32; RESULT_WORDS]
+    ensures { λ n. ⌜ n ≡ numbersOf (numbers r) ⌝ }
+{
+    [
+        r.number,
+        r.place,
+        r.start,
+        r.end,
+        r.instructions,
+        r.constants,
+        r.frame_size,
+        r.arity,
+    ]
 }
 
 // A root as a condition: `lower_jump_if_false` and `lower_jump_if_true`, by the outcome at which the jump is taken.

@@ -13,7 +13,7 @@ use Rattle.words.specs.Records.{capacity}
 use Rattle.syntax.specs.Ast.{nodeWidth}
 use Rattle.runtime.specs.Instruction.{instructionWidth}
 use Rattle.runtime.specs.Value.{constantWidth}
-use Rattle.lowering.specs.Result.{Lowered, lower}
+use Rattle.lowering.specs.Result.{numbersOf, Lowered, lower}
 use Rattle.lowering.proofs.Answers.{nothing-beyond}
 use Rattle.codegen.specs.declared.Result.{Result}
 use Rattle.codegen.specs.Numbers.{numbers}
@@ -22,7 +22,7 @@ use Rattle.codegen.proofs.Width.{exact-words}
 use Rattle.listing.specs.declared.text.Header.{Header}
 use Rattle.listing.specs.declared.text.Head.{Head}
 use Rattle.listing.specs.Text.{maxNodes, maxListWords, maxParameters, longestText, listWidth, nameWidth, readHeader, readNodes, readList, readNames, readText, filled}
-use Rattle.listing.specs.Output.{maxInstructions, maxConstants, maxMarks, longestListing, numbersOf, printed, listing, printTree, lowerlist}
+use Rattle.listing.specs.Output.{maxInstructions, maxConstants, maxMarks, longestListing, printed, listing, printTree, lowerlist}
 use Rattle.listing.proofs.Written.{printed-length}
 use Rattle.listing.proofs.Only.{text-only}
 use Rattle.listing.proofs.Program.{zero-words, length-zeros, text-bounds, nodes-bytes, list-bytes, names-bytes, lowered-prints, good-prints, bad-prints}

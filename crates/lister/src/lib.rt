@@ -4,19 +4,18 @@ ghost use mathlib.Core.Option.{none};
 ghost use Prim.Native.Nat.{_+_, _*_, _≤_};
 ghost use lib.ListN.{length, take};
 ghost use lib.Seq.{sets};
-ghost use Rattle.codegen.specs.Numbers.{numbers};
 ghost use Rattle.listing.specs.Text.{longestText};
-ghost use Rattle.listing.specs.Output.{longestListing, numbersOf, printTree, lowerlist};
+ghost use Rattle.listing.specs.Output.{longestListing, printTree, lowerlist};
 ghost use Rattle.lister.specs.Lister.{treeListing};
-use codegen::Result;
 use codegen::lower;
+use codegen::numbers_of;
 use diagnostics::Refusal;
 use listing::column::COLUMN_BYTES;
-use listing::output::RESULT_WORDS;
 use listing::output::write_listing;
 use listing::text::Head;
 use listing::text::Header;
 use listing::text::read_text;
+use lowering::RESULT_WORDS;
 use runtime::instruction::INSTRUCTION_WORDS;
 use runtime::value::CONSTANT_WORDS;
 use syntax::ast::NODE_WORDS;
@@ -90,22 +89,6 @@ pub fn listing_buffer() -> [u8; LISTING_BUFFER]
     ensures { λ r. ⌜ longestListing ≡ length r ⌝ }
 {
     [0; LISTING_BUFFER]
-}
-
-// The eight numbers, in the order in which they are printed.
-fn numbers_of(r: Result) -> [u32; RESULT_WORDS]
-    ensures { λ n. ⌜ n ≡ numbersOf (numbers r) ⌝ }
-{
-    [
-        r.number,
-        r.place,
-        r.start,
-        r.end,
-        r.instructions,
-        r.constants,
-        r.frame_size,
-        r.arity,
-    ]
 }
 
 // Lowers a tree and prints what that leaves. How many bytes that is; those past the end of `out` are left out.

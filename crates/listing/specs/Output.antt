@@ -10,7 +10,7 @@ use Rattle.words.specs.Words.{bytesOf}
 use Rattle.syntax.specs.Ast.{nodeWidth}
 use Rattle.runtime.specs.Instruction.{instructionWidth}
 use Rattle.runtime.specs.Value.{constantWidth}
-use Rattle.lowering.specs.Result.{Result, result, Lowered, lower}
+use Rattle.lowering.specs.Result.{result, numbersOf, Lowered, lower}
 use Rattle.listing.specs.Column.{maxWord, writeColumn}
 use Rattle.listing.specs.Text.{lineFeed, lineBytes, headerWidth, listWidth, nameWidth, maxNodes, maxListWords, maxParameters, Tree, readTree}
 
@@ -26,10 +26,6 @@ writeLines w (suc n) ws = writeLine w ws ++ writeLines w n (drop w ws)
 
 abbrev pub resultWidth : ℕ
 resultWidth = 8
-
--- "Result: number (0 accepted), place, span start, span end, instructions, constants, frame size, arity."
-abbrev pub numbersOf : Result → List ℕ
-numbersOf r = r .number ∷ r .place ∷ r .start ∷ r .end ∷ r .instructions ∷ r .constants ∷ r .frameSize ∷ r .arity ∷ []
 
 -- the eight numbers, and as many instructions and constants as the fifth and the sixth say
 unfoldable pub printed : List ℕ → List ℕ → List ℕ → List ℕ

@@ -9,12 +9,11 @@ use crate::column::COLUMN_BYTES;
 use crate::column::put;
 use crate::column::write_column;
 use crate::text::LINE_FEED;
+use lowering::RESULT_WORDS;
 use runtime::instruction::INSTRUCTION_WORDS;
 use runtime::value::CONSTANT_WORDS;
 use words::put_words;
 use words::word;
-
-pub const RESULT_WORDS: usize = 8;
 
 // The bytes of the lines of a result, of an instruction and of a constant.
 const RESULT_LINE: usize = COLUMN_BYTES * RESULT_WORDS + 1;

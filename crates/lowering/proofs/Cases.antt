@@ -1,6 +1,7 @@
 -- The table of worked cases (specs/Cases): the worked page of document 01, its starred cases, and more. Assumes nothing.
 use mathlib.Core.Path.{_≡_, refl}
-use mathlib.Core.List.{map}
+use mathlib.Core.List.{[], _∷_, map}
+use Prim.Native.Nat.{ℕ}
 use lib.Ieee.{ofBits, toBits, nanBits, ofFields, odd, size, climb, span}
 use Rattle.words.specs.Records.{capacity, recordAt, putRecord, sameWords, isAt, positionFrom, position, append}
 use Rattle.words.specs.Words.{wordOf, words, tail, bytesOf}
@@ -16,7 +17,7 @@ use Rattle.runtime.specs.Value.{numberOf, constantWords}
 use Rattle.lowering.specs.Lower.{source, sameRegister, nameOf, materialized, lowerMaterializing, moved, named, binarySources, lowerArguments, storeNamed, storeKeyed, lowerEntry, lowerEntries, lowerElse, lowerTail, lowerNode, tested, fusedSources, fused, jumpNode, lowerExpression, lowerJumpIfFalse, lowerJumpIfTrue, expressionBelow, jumpBelow}
 use Rattle.lowering.specs.Operators.{binaryRR, binaryRK, binaryKR, unary, comparison, jumpRR, jumpRK, jumpKR, jumpIf}
 use Rattle.lowering.specs.Questions.{whole, question1, question2, question3, question4, question5, question6, allBelow, question7, question8, askNode, askNodes, questions}
-use Rattle.lowering.specs.Result.{begin, lowerRoot, answered, lowerChecked, lower}
+use Rattle.lowering.specs.Result.{result, numbersOf, begin, lowerRoot, answered, lowerChecked, lower}
 use Rattle.lowering.specs.Steps.{placed, registered, allocateTemp, freeTemp, destination, emit, store, loadConstant, withOffset, patchJump, mark, patchArgument, patchMarks, patchArguments}
 use Rattle.lowering.specs.Tree.{present, entryNodes, children}
 use Rattle.lowering.specs.Walk.{bind}
@@ -26,3 +27,9 @@ use Rattle.lowering.specs.Cases.{filled, given, wanted, cases}
 pub worked : map given cases ≡ map wanted cases
 unfolding given wanted cases filled ofBits toBits nanBits capacity recordAt putRecord sameWords isAt positionFrom position append wordOf words tail bytesOf bit clear flip found allocated freed parameters lookup free takeOut putBack smallestFrom smallestFree allFree without taken givenBack nodeWord nodeAt binaryOp unaryOp emitInstruction storeConstant wordsOf hasDestination offsetWord regOf numberOf constantWords source sameRegister nameOf materialized lowerMaterializing moved named binarySources lowerArguments storeNamed storeKeyed lowerEntry lowerEntries lowerElse lowerTail lowerNode tested fusedSources fused jumpNode lowerExpression lowerJumpIfFalse lowerJumpIfTrue expressionBelow jumpBelow binaryRR binaryRK binaryKR unary comparison jumpRR jumpRK jumpKR jumpIf whole question1 question2 question3 question4 question5 question6 allBelow question7 question8 askNode askNodes questions begin lowerRoot answered lowerChecked lower placed registered allocateTemp freeTemp destination emit store loadConstant withOffset patchJump mark patchArgument patchMarks patchArguments present entryNodes children bind
 worked = refl
+
+-- the eight numbers come in the order in which the table has them
+pub numbers-in-order : (number place start end instructions constants frameSize arity : ℕ) →
+    numbersOf (result number place start end instructions constants frameSize arity)
+    ≡ number ∷ place ∷ start ∷ end ∷ instructions ∷ constants ∷ frameSize ∷ arity ∷ []
+numbers-in-order number place start end instructions constants frameSize arity = refl

@@ -1,6 +1,6 @@
 -- The whole of lowering, and patching: what comes back, and what is left in the buffers.
 use Prim.Native.Nat.{ℕ, zero, suc, _+_, _*_}
-use mathlib.Core.List.{List}
+use mathlib.Core.List.{List, [], _∷_}
 use mathlib.Core.Bool.{Bool, cond, _&&_}
 use lib.Dec.{leb, ltb}
 use lib.ListN.{length, getD}
@@ -31,6 +31,10 @@ pub record Result : Type 0 where
   pub constants : ℕ
   pub frameSize : ℕ
   pub arity : ℕ
+
+-- these numbers in this order: as they are printed, and as a caller in C finds them
+abbrev pub numbersOf : Result → List ℕ
+numbersOf r = r .number ∷ r .place ∷ r .start ∷ r .end ∷ r .instructions ∷ r .constants ∷ r .frameSize ∷ r .arity ∷ []
 
 -- the eight numbers, and the words of the three buffers
 pub record Lowered : Type 0 where

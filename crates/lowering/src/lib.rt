@@ -2,6 +2,9 @@
 use environment::Register;
 use environment::RegisterSet;
 
+// The eight numbers that come back, a word each.
+pub const RESULT_WORDS: usize = 8;
+
 // The part of kaori's `Lower` that is not a lent slice: the registers, and how many records of each buffer are made.
 pub struct State {
     pub registers: RegisterSet,

@@ -1,35 +1,15 @@
-// The functions that C calls, on numbers and byte slices. docs/EXPORTS.md has their signatures in C.
+// The functions that C calls, on numbers and byte slices. include/sewurogi.h declares them, with a pointer and a length for each slice.
 ghost use mathlib.Core.Path.{_≡_};
 ghost use mathlib.Core.List.{_++_};
-ghost use Rattle.words.specs.Words.{words, tail, bytesOf};
 ghost use lib.Seq.{sets};
-ghost use Rattle.lowering.specs.Result.{lower, patch};
-ghost use Rattle.codegen.specs.Numbers.{numbers};
-ghost use Rattle.codegen.specs.Written.{written};
-use crate::Result;
-use crate::lower;
+ghost use Rattle.words.specs.Words.{words, tail, bytesOf};
+ghost use Rattle.lowering.specs.Result.{numbersOf, lower, patch};
+use codegen::lower;
+use codegen::numbers_of;
 use lower_ast::patch_jump;
 use words::put_words;
 
-// The eight numbers, a word each, as far as there is place.
-fn put_result(result: &mut [u8], r: Result)
-    ensures words { λ _. ⌜ words (now (result .exit)) ≡ sets (words (now (result .entry))) 0 (written (numbers r)) ⌝ }
-    ensures tail { λ _. ⌜ tail (now (result .exit)) ≡ tail (now (result .entry)) ⌝ }
-{
-    let numbers = [
-        r.number,
-        r.place,
-        r.start,
-        r.end,
-        r.instructions,
-        r.constants,
-        r.frame_size,
-        r.arity,
-    ];
-    put_words(result, 0, &numbers);
-}
-
-// `lower`, with the eight numbers in `result`: those for which it has no place are left out, and no byte past the eighth changes.
+// `lower`, with the eight numbers in `result`, a word each: those for which it has no place are left out, and no byte past the eighth word changes.
 #[no_mangle]
 pub extern "C" fn sewurogi_lower(
     nodes: &[u8],
@@ -42,14 +22,15 @@ pub extern "C" fn sewurogi_lower(
     marks: &mut [u8],
     result: &mut [u8],
 )
-    ensures result { λ _. ⌜ words (now (result .exit)) ≡ sets (words (now (result .entry))) 0 (written (lower (now (nodes .entry)) root mode (now (list .entry)) (now (names .entry)) (words (now (code .entry))) (words (now (constants .entry))) (words (now (marks .entry))) .result)) ⌝ }
+    ensures result { λ _. ⌜ words (now (result .exit)) ≡ sets (words (now (result .entry))) 0 (numbersOf (lower (now (nodes .entry)) root mode (now (list .entry)) (now (names .entry)) (words (now (code .entry))) (words (now (constants .entry))) (words (now (marks .entry))) .result)) ⌝ }
     ensures tail { λ _. ⌜ tail (now (result .exit)) ≡ tail (now (result .entry)) ⌝ }
     ensures code { λ _. ⌜ now (code .exit) ≡ bytesOf (lower (now (nodes .entry)) root mode (now (list .entry)) (now (names .entry)) (words (now (code .entry))) (words (now (constants .entry))) (words (now (marks .entry))) .code) ++ tail (now (code .entry)) ⌝ }
     ensures constants { λ _. ⌜ now (constants .exit) ≡ bytesOf (lower (now (nodes .entry)) root mode (now (list .entry)) (now (names .entry)) (words (now (code .entry))) (words (now (constants .entry))) (words (now (marks .entry))) .constants) ++ tail (now (constants .entry)) ⌝ }
     ensures marks { λ _. ⌜ now (marks .exit) ≡ bytesOf (lower (now (nodes .entry)) root mode (now (list .entry)) (now (names .entry)) (words (now (code .entry))) (words (now (constants .entry))) (words (now (marks .entry))) .marks) ++ tail (now (marks .entry)) ⌝ }
 {
     let r = lower(nodes, root, mode, list, names, code, constants, marks);
-    put_result(result, r);
+    let numbers = numbers_of(r);
+    put_words(result, 0, &numbers);
 }
 
 // `patch_jump`: 0, or 19.
