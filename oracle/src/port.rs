@@ -1,6 +1,8 @@
-//! The port, by its C-callable functions. A slice is two parameters, pointer and length.
+//! The port, by its C-callable functions: those of the archive through the Rust bindings, those of shared objects as
+//! they are.
 
 use crate::tree::{Answer, Input, words};
+use sewurogi::ffi::{self, Lower};
 use std::{
     ffi::{CStr, CString, c_char, c_int, c_void},
     fs, mem,
@@ -8,29 +10,8 @@ use std::{
     path::Path,
 };
 
+// The C library's loader of shared objects.
 unsafe extern "C" {
-    fn sewurogi_lower(
-        nodes: *const u8,
-        nodes_length: usize,
-        root: u32,
-        mode: u32,
-        list: *const u8,
-        list_length: usize,
-        names: *const u8,
-        names_length: usize,
-        code: *mut u8,
-        code_length: usize,
-        constants: *mut u8,
-        constants_length: usize,
-        marks: *mut u8,
-        marks_length: usize,
-        result: *mut u8,
-        result_length: usize,
-    );
-
-    fn sewurogi_patch_jump(code: *mut u8, code_length: usize, count: u32, index: u32, offset: u32) -> u32;
-
-    // The C library's loader of shared objects.
     fn dlopen(file: *const c_char, flags: c_int) -> *mut c_void;
     fn dlsym(object: *mut c_void, name: *const c_char) -> *mut c_void;
     fn dlerror() -> *const c_char;
@@ -38,26 +19,6 @@ unsafe extern "C" {
 
 /// Every symbol is looked up when the object is loaded, none at its first call.
 const RTLD_NOW: c_int = 2;
-
-/// The parameters of `sewurogi_lower`, as declared above.
-type Lower = unsafe extern "C" fn(
-    *const u8,
-    usize,
-    u32,
-    u32,
-    *const u8,
-    usize,
-    *const u8,
-    usize,
-    *mut u8,
-    usize,
-    *mut u8,
-    usize,
-    *mut u8,
-    usize,
-    *mut u8,
-    usize,
-);
 
 /// `sewurogi_lower`: of the archive that is linked, or of a shared object that has the port in another shape.
 #[derive(Clone, Copy)]
@@ -76,7 +37,7 @@ pub struct Asked<'a> {
 }
 
 impl Port {
-    pub const LINKED: Port = Port { lower: sewurogi_lower };
+    pub const LINKED: Port = Port { lower: ffi::sewurogi_lower };
 
     /// Of a shared object. It stays loaded to the end of the process.
     pub fn load(path: &Path) -> Result<Port, String> {
@@ -84,7 +45,7 @@ impl Port {
         let file = fs::canonicalize(path).map_err(|error| format!("{}: {error}", path.display()))?;
         let file = CString::new(file.into_os_string().into_vec()).expect("no 0 in a path");
         // SAFETY: both strings end with a 0 and live through the calls. That the object's `sewurogi_lower` has the
-        // parameters above is the caller's word, as it is for the archive.
+        // archive's parameters is the caller's word.
         unsafe {
             let object = dlopen(file.as_ptr(), RTLD_NOW);
             let lower = if object.is_null() { object } else { dlsym(object, c"sewurogi_lower".as_ptr()) };
@@ -157,18 +118,22 @@ impl Guarded {
 
 pub fn lower(input: &Input) -> Answer {
     let [mut code, mut constants, mut marks] = [&input.code, &input.constants, &input.marks].map(|b| Guarded::new(b));
-    let asked =
-        Asked { nodes: &input.nodes, root: input.root, mode: input.mode, list: &input.list, names: &input.names };
-    let result = Port::LINKED.lower_into(asked, code.buffer(), constants.buffer(), marks.buffer());
+    let tree = sewurogi::Tree { nodes: &input.nodes, root: input.root, list: &input.list, names: &input.names };
+    let buffers = sewurogi::Buffers { code: code.buffer(), constants: constants.buffer(), marks: marks.buffer() };
+    let result = match sewurogi::lower(tree, input.mode, buffers) {
+        Ok(numbers) => numbers.words(),
+        Err(refused) => {
+            assert_eq!(refused.refusal.number(), refused.numbers.number, "the bindings name another refusal");
+            refused.numbers.words()
+        }
+    };
     Answer { result, code: code.after(), constants: constants.after(), marks: marks.after() }
 }
 
 /// Patching: 0, and the offset word set, or 19.
 pub fn patch(code: &mut [u8], count: u32, index: u32, offset: u32) -> u32 {
     let mut guarded = Guarded::new(code);
-    let buffer = guarded.buffer();
-    // SAFETY: pointer and length are those of a slice that is borrowed alone.
-    let number = unsafe { sewurogi_patch_jump(buffer.as_mut_ptr(), buffer.len(), count, index, offset) };
+    let patched = sewurogi::patch_jump(guarded.buffer(), count, index, offset.cast_signed());
     code.copy_from_slice(&guarded.after());
-    number
+    patched.map_or_else(sewurogi::Refusal::number, |()| 0)
 }
