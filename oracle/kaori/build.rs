@@ -27,12 +27,18 @@ const STUBBED: &[&str] = &["codegen", "runtime", "syntax"];
 const BUFFERS: &[&str] = &["function", "lower_ast"];
 
 fn main() {
-    println!("cargo:rerun-if-env-changed=KAORI_SRC");
+    println!("cargo::rerun-if-env-changed=KAORI_SRC");
     let package = PathBuf::from(env::var("CARGO_MANIFEST_DIR").unwrap());
     let oracle = package.parent().unwrap();
     let given = env::var("KAORI_SRC").unwrap_or_else(|_| DEFAULT.to_string());
-    let kaori = fs::canonicalize(oracle.join(&given))
-        .unwrap_or_else(|e| panic!("kaori's src folder {given}: {e}; set KAORI_SRC"));
+    let Ok(kaori) = fs::canonicalize(oracle.join(&given)) else {
+        println!("cargo::error=there is no folder {given}: name kaori's `src` folder in KAORI_SRC");
+        return;
+    };
+    if let Some(missing) = files().map(|file| kaori.join(file)).find(|file| !file.exists()) {
+        println!("cargo::error=there is no {}: name kaori's `src` folder in KAORI_SRC", missing.display());
+        return;
+    }
     let out = PathBuf::from(env::var("OUT_DIR").unwrap());
     let bounded = env::var("CARGO_FEATURE_BOUNDED").is_ok();
 
@@ -42,6 +48,16 @@ fn main() {
     fs::write(out.join("records.rs"), records(&variants(&text))).unwrap();
 }
 
+/// All of kaori's files, below its folder.
+fn files() -> impl Iterator<Item = PathBuf> {
+    let below = |(folder, files): &'static (&str, &[&str])| files.iter().map(|file| file_of(folder, file));
+    MODULES.iter().flat_map(below)
+}
+
+fn file_of(folder: &str, file: &str) -> PathBuf {
+    Path::new(folder).join(format!("{file}.rs"))
+}
+
 fn root(kaori: &Path, stubs: &Path, bounded: bool) -> String {
     let mut text = String::new();
     for (folder, files) in MODULES {
@@ -49,8 +65,8 @@ fn root(kaori: &Path, stubs: &Path, bounded: bool) -> String {
             text += &format!("pub mod {folder} {{\n");
         }
         for file in *files {
-            let path = kaori.join(folder).join(format!("{file}.rs"));
-            println!("cargo:rerun-if-changed={}", path.display());
+            let path = kaori.join(file_of(folder, file));
+            println!("cargo::rerun-if-changed={}", path.display());
             let vector = if bounded && BUFFERS.contains(file) { "use crate::bounded::Vec; " } else { "" };
             text += &format!("pub mod {file} {{ {vector}include!({path:?}); }}\n");
         }

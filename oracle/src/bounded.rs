@@ -5,6 +5,8 @@ pub use ::kaori_bounded as kaori;
 use kaori::{bounded::Full, codegen::lower_ast::Lower, runtime::function::Function};
 use std::any::Any;
 
+// The same driver over the other build of kaori: `plain` has it too.
+#[allow(clippy::duplicate_mod)]
 #[path = "drive.rs"]
 pub mod drive;
 

@@ -15,12 +15,14 @@ use std::{
     time::{Duration, Instant},
 };
 
+/// Code, count, index, offset: 0 and the code changed, or 19.
+pub type Patch = dyn Fn(&mut [u8], u32, u32, u32) -> u32;
+
 /// What is compared with kaori: the port and the model.
 pub struct Subject {
     pub name: &'static str,
     pub lower: Box<dyn Fn(&Input) -> Answer>,
-    /// Code, count, index, offset: 0 and the code changed, or 19.
-    pub patch: Box<dyn Fn(&mut [u8], u32, u32, u32) -> u32>,
+    pub patch: Box<Patch>,
 }
 
 pub fn model_subject() -> Subject {
@@ -74,6 +76,9 @@ pub struct Comparison {
     shown: Instant,
 }
 
+/// A part of the comparison, by the number of random trees.
+type Phase = fn(&mut Comparison, u64);
+
 /// What was wanted, by whom, and what was given.
 struct Difference {
     by: &'static str,
@@ -105,7 +110,7 @@ impl Comparison {
 
     /// All phases. Trees: how many random ones; the others follow from it.
     pub fn run(&mut self, trees: u64) {
-        let phases: [(&'static str, fn(&mut Comparison, u64)); 9] = [
+        let phases: [(&'static str, Phase); 9] = [
             ("cases", Comparison::cases),
             ("exhaustive", Comparison::exhaustive),
             ("random", Comparison::random_trees),

@@ -449,7 +449,7 @@ pub fn alternating(shapes: &[&str]) -> Tree {
     levels(&mut shapes.iter().copied().cycle(), 1, &[0, 1])
 }
 
-fn levels<'a>(shapes: &mut dyn Iterator<Item = &'a str>, leaf: u32, names: &[u32]) -> Tree {
+fn levels(shapes: &mut dyn Iterator<Item = &str>, leaf: u32, names: &[u32]) -> Tree {
     let mut tree = Tree { names: names.to_vec(), root: leaf, ..Tree::default() };
     for words in [number_words(1.0), [kind::NAME, 0, 0, 0], [kind::NAME, 1, 0, 0]] {
         push(&mut tree, words);

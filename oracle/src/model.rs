@@ -236,7 +236,7 @@ pub fn patch(code: &mut [u8], count: u32, index: u32, offset: u32) -> u32 {
 /// Questions 1 to 8.
 impl Walk {
     fn questions(&self, input: &Input) -> Step<()> {
-        let whole = |slice: &[u8], words: usize| slice.len() % (4 * words) == 0;
+        let whole = |slice: &[u8], words: usize| slice.len().is_multiple_of(4 * words);
         if !(whole(&input.nodes, NODE_WORDS) && whole(&input.list, 1) && whole(&input.names, 1))
             || self.nodes.is_empty()
             || self.nodes.len() > MOST_NODES

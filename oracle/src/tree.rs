@@ -128,7 +128,7 @@ impl Tree {
 
     /// The tree of a call, when its slices are whole records.
     pub fn of(input: &Input) -> Option<Tree> {
-        let whole = |slice: &[u8], words: usize| slice.len() % (4 * words) == 0;
+        let whole = |slice: &[u8], words: usize| slice.len().is_multiple_of(4 * words);
         (whole(&input.nodes, NODE_WORDS) && whole(&input.list, 1) && whole(&input.names, 1)).then(|| Tree {
             mode: input.mode,
             root: input.root,

@@ -2,6 +2,7 @@
 
 use oracle::{
     cases::{self, Case, Known},
+    compare::Patch,
     expression::{self, Expression, X, Y, and, binary, call, if_else, map, not, number, property, x, y, z},
     generate, model, port,
     reference::{instruction_names, reference, reference_answer, reference_patch},
@@ -180,7 +181,7 @@ fn whole_records() {
 }
 
 /// Patching, by the model and by the port.
-const PATCHES: [fn(&mut [u8], u32, u32, u32) -> u32; 2] = [model::patch, port::patch];
+const PATCHES: [&Patch; 2] = [&model::patch, &port::patch];
 
 /// Reading 9: which kinds are jumps, and which word holds the offset, for all 55.
 #[test]
