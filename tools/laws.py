@@ -1,7 +1,7 @@
 #!/usr/bin/env python3
 """laws.py: checks the names in docs/LAWS.md against the crates, prints each that is wrong, and exits with 1 if there is one. Run it at the root of the repository.
 
-A theorem, as in "crate, File: `name`", must stand in that file; where a cell names no crate, the table's head does, as "(crate lowering)". A definition in brackets must stand in some
+A theorem, as in "crate, File: `name`" or "crate, Folder/File: `name`", must stand in that file; where a cell names no crate, the table's head does, as "(crate lowering)". A definition in brackets must stand in some
 specs/, and one in the last table in the files of its row. Any other name of one word must stand in some crate's specs/, proofs/ or src/."""
 import pathlib
 import re
@@ -29,7 +29,7 @@ def declared(files, pattern):
 ANTT = r"\s*(?:(?:pub|abbrev|unfoldable|record|data)\s+)*([^\s:(){}]+)(?=\s*[:({]|\s+\()"
 RATTLE = r'\s*(?:pub(?:\(crate\))? )?(?:extern "C" )?(?:fn|struct|enum|const) (\w+)'
 SPECS = declared(CRATES.glob("*/specs/*.antt"), ANTT)
-PROOFS = declared(CRATES.glob("*/proofs/*.antt"), ANTT)
+PROOFS = declared([*CRATES.glob("*/proofs/*.antt"), *CRATES.glob("*/proofs/*/*.antt")], ANTT)
 CODE = declared(CRATES.glob("*/src/*.rt"), RATTLE)
 IN_SPECS = set().union(*SPECS.values())
 ANYWHERE = IN_SPECS.union(OTHER, *PROOFS.values(), *CODE.values())
@@ -41,7 +41,7 @@ def wrong_in_cell(cell, crate):
         yield from (f"{name}: not in specs/" for name in names_in(bracket) if name not in IN_SPECS)
     for part in re.sub(r"\([^()]*\)", "", cell).split(";"):
         # the last "crate, File: " of a part, and the names after it
-        if m := re.match(r".*?(?:([a-z_]+), )?\b([A-Z]\w*): ([^:]*)$", part):
+        if m := re.match(r".*?(?:([a-z_]+), )?\b([A-Z][\w/]*): ([^:]*)$", part):
             path = CRATES / (m[1] or crate) / "proofs" / f"{m[2]}.antt"
             yield from (f"{name}: not in {path}" for name in names_in(m[3]) if name not in PROOFS.get(path, ()))
 

@@ -22,8 +22,8 @@ use Rattle.lowering.specs.Walk.{Made, made, Outcome, ends, stops, Walk, bind, r
 use Rattle.lowering.specs.Steps.{freeTemp, patchArguments}
 use Rattle.lowering.specs.Lower.{lowerExpression, lowerJumpIfFalse, lowerJumpIfTrue, jumpNode}
 use Rattle.lowering.specs.Result as definition
-use Rattle.lowering.proofs.Checked.{questions-passed}
-use Rattle.lowering.proofs.Bound.{jump-false-at, jump-true-at}
+use Rattle.lowering.proofs.Questions.Checked.{questions-passed}
+use Rattle.lowering.proofs.Bound.Lowering.{jump-false-at, jump-true-at}
 use Rattle.steps.specs.declared.answer.Answer.{Answer}
 use Rattle.steps.specs.declared.kinds.Condition.{Condition}
 use Rattle.steps.specs.Answers.{seen, answered}

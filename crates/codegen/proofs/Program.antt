@@ -26,13 +26,13 @@ use Rattle.lowering.specs.Result as definition
 use Rattle.lowering.specs.Answers.{Stopped, StopsWith, Tells, Ended, Within}
 use Rattle.lowering.specs.Frame.{Frames}
 use Rattle.lowering.specs.Pool.{Pool, Fit}
-use Rattle.lowering.proofs.Came as came
-use Rattle.lowering.proofs.Answers as answers
-use Rattle.lowering.proofs.Full as full
-use Rattle.lowering.proofs.Frame as frame
-use Rattle.lowering.proofs.Reached as reached
-use Rattle.lowering.proofs.Accepted as law
-use Rattle.lowering.proofs.Conditions as conditions
+use Rattle.lowering.proofs.Walk.LowerRuns as came
+use Rattle.lowering.proofs.Walk.Answers as answers
+use Rattle.lowering.proofs.Walk.BuffersFull as full
+use Rattle.lowering.proofs.Walk.FrameSize as frame
+use Rattle.lowering.proofs.Walk.PoolOfLower as reached
+use Rattle.lowering.proofs.Running.Accepted as law
+use Rattle.lowering.proofs.Running.ConditionLaw as conditions
 use Rattle.codegen.specs.declared.Result.{Result}
 use Rattle.codegen.specs.Numbers.{numbers}
 use Rattle.codegen.specs.Laws.{Bytes, markCount, Unwritten, Beyond, Lifetimes}

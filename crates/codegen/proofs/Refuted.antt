@@ -25,7 +25,7 @@ use Rattle.lowering.specs.Walk.{bind, left}
 use Rattle.lowering.specs.Result.{Lowered, result, begin, lowerRoot, answered, lowerChecked, lower}
 use Rattle.lowering.specs.Pool.{Pool}
 use Rattle.lowering.specs.Examples.{pageNodes, pageWith}
-use Rattle.lowering.proofs.Refuted.{walked}
+use Rattle.lowering.proofs.Walk.Refuted.{walked}
 use Rattle.codegen.specs.declared.Result.{Result}
 use Rattle.codegen.specs.Laws.{Beyond, Unwritten}
 use Rattle.codegen.proofs.Stored.{pool-shows}

@@ -19,10 +19,10 @@ use Rattle.lowering.specs.Result.{Lowered, begin, lowerRoot, lower}
 use Rattle.lowering.specs.Trace.{Runs, step, returns, follows, halts, reads, counts, takes, gives, leaves, emits, finds, pools, patches, marks, moves, refuses, constantsOf}
 use Rattle.lowering.specs.Answers.{start}
 use Rattle.lowering.specs.Pool.{Fit, Stores, First, Pool}
-use Rattle.lowering.proofs.Decode.{constant-length}
-use Rattle.lowering.proofs.Pooling.{runs-pool}
-use Rattle.lowering.proofs.Came.{Came, before, accepted, stopped, lower-came, few-names, first-number}
-use Rattle.lowering.proofs.Reached.{nothing-cut, pool-adds-reached}
+use Rattle.lowering.proofs.Running.Decode.{constant-length}
+use Rattle.lowering.proofs.Walk.Pool.{runs-pool}
+use Rattle.lowering.proofs.Walk.LowerRuns.{Came, before, accepted, stopped, lower-came, few-names, first-number}
+use Rattle.lowering.proofs.Walk.PoolOfLower.{nothing-cut, pool-adds-reached}
 
 -- a constant stands at an index of what was made
 abbrev pub Stands : Made → Operand → ℕ → Type 0

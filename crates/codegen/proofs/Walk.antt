@@ -21,8 +21,8 @@ use Rattle.lowering.specs.Checked.{Checked, Below}
 use Rattle.lowering.specs.Walk.{Made, Outcome, ends, stops, Walk, bind, ret, error}
 use Rattle.lowering.specs.Steps.{freeTemp, destination, loadConstant, emit, store, mark}
 use Rattle.lowering.specs.Lower.{Source, source, register, constant, nameOf, storeNamed, storeKeyed, lowerElse, lowerTail, lowerMaterializing, lowerArguments, lowerEntry, lowerEntries, lowerNode, lowerExpression, lowerJumpIfFalse, jumpNode}
-use Rattle.lowering.proofs.Checked.{checked-below}
-use Rattle.lowering.proofs.Bound.{expression-at, jump-false-at}
+use Rattle.lowering.proofs.Questions.Checked.{checked-below}
+use Rattle.lowering.proofs.Bound.Lowering.{expression-at, jump-false-at}
 use Rattle.steps.specs.declared.answer.Answer.{Answer}
 use Rattle.steps.specs.declared.kinds.Condition.{Condition}
 use Rattle.steps.specs.Answers.{refused, operandOf, placeOf, heldBy, isRegister, registerOf, seen, answered, asRegister, setNamed}

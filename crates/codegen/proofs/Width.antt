@@ -22,19 +22,18 @@ use Rattle.runtime.specs.declared.operand.Operand.{Operand}
 use Rattle.runtime.specs.Instruction.{wordsOf}
 use Rattle.runtime.specs.Value.{numberOf, numberBits, constantWords}
 use Rattle.runtime.specs.Function.{maxInstructions}
-use Rattle.runtime.proofs.Encoding.{kind-le}
+use Rattle.runtime.proofs.Encoding.{kind-le, length-words-of}
 use Rattle.lowering.specs.Tree.{Tree}
 use Rattle.lowering.specs.Walk.{Made, Outcome, Walk, left}
 use Rattle.lowering.specs.Steps.{withOffset}
 use Rattle.lowering.specs.Result.{Result, Lowered, begin, lower}
 use Rattle.lowering.specs.Fields.{Field, reg, index, arguments, offset, unused, limit, Narrow, fieldOf}
 use Rattle.lowering.specs.Trace.{Runs, Step, takes, gives, leaves, emits, finds, pools, patches, marks, moves, refuses, constantOfNode, instructionsOf, constantsOf}
-use Rattle.lowering.proofs.Decode.{words-length}
-use Rattle.lowering.proofs.Everywhere.{along}
-use Rattle.lowering.proofs.Beyond.{Grows, grows-refl, grows-trans, grows-each}
-use Rattle.lowering.proofs.Came.{Came, before, accepted, stopped, lower-came}
-use Rattle.lowering.proofs.Answers.{nothing-beyond}
-use Rattle.lowering.proofs.Reached.{nothing-cut}
+use Rattle.lowering.proofs.Walk.StepLaws.{along}
+use Rattle.lowering.proofs.Walk.NothingBeyond.{Grows, grows-refl, grows-trans, grows-each}
+use Rattle.lowering.proofs.Walk.LowerRuns.{Came, before, accepted, stopped, lower-came}
+use Rattle.lowering.proofs.Walk.Answers.{nothing-beyond}
+use Rattle.lowering.proofs.Walk.PoolOfLower.{nothing-cut}
 use Rattle.codegen.specs.Laws.{Bytes, Words}
 
 -- ---- bytes and words
@@ -158,7 +157,7 @@ instruction-words i top h n (suc zero) = lt-of-lt-of-le (n .0) (limit-small top 
 instruction-words i top h n (suc (suc zero)) = lt-of-lt-of-le (n .1) (limit-small top h (fieldOf (getD (wordsOf i) 0 0) 1))
 instruction-words i top h n (suc (suc (suc zero))) = lt-of-lt-of-le (n .2) (limit-small top h (fieldOf (getD (wordsOf i) 0 0) 2))
 instruction-words i top h n (suc (suc (suc (suc k)))) =
-    rw (List·getD-eq-default (wordsOf i) 0 {n = suc (suc (suc (suc k)))} (omega (arith, words-length i))) (omega arith)
+    rw (List·getD-eq-default (wordsOf i) 0 {n = suc (suc (suc (suc k)))} (omega (arith, length-words-of i))) (omega arith)
 
 -- ---- constants: a number's bits, a symbol of the tree
 

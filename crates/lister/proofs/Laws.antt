@@ -14,7 +14,7 @@ use Rattle.syntax.specs.Ast.{nodeWidth}
 use Rattle.runtime.specs.Instruction.{instructionWidth}
 use Rattle.runtime.specs.Value.{constantWidth}
 use Rattle.lowering.specs.Result.{numbersOf, Lowered, lower}
-use Rattle.lowering.proofs.Answers.{nothing-beyond}
+use Rattle.lowering.proofs.Walk.Answers.{nothing-beyond}
 use Rattle.codegen.specs.declared.Result.{Result}
 use Rattle.codegen.specs.Numbers.{numbers}
 use Rattle.codegen.specs.Laws.{Bytes}

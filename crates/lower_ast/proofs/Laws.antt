@@ -10,7 +10,7 @@ use Rattle.words.specs.Words.{words, tail, bytesOf}
 use Rattle.words.proofs.Words.{bytes-words}
 use Rattle.lowering.specs.Result.{patch}
 use Rattle.lowering.specs.Answers.{MayPatch, MayNot}
-use Rattle.lowering.proofs.Answers.{only-patching, patched-exactly, refused-exactly, patch-writes-nothing, patch-writes-one}
+use Rattle.lowering.proofs.Walk.Answers.{only-patching, patched-exactly, refused-exactly, patch-writes-nothing, patch-writes-one}
 use Rattle.lower_ast.specs.Laws.{OneOffset, Lifetimes}
 use Rattle.lower_ast.proofs.patch_jump.Reads as reads
 

@@ -15,7 +15,7 @@ use Rattle.syntax.specs.Ast.{nodeKinds}
 use Rattle.syntax.proofs.Tables.{five-past}
 use Rattle.lowering.specs.Tree.{children}
 use Rattle.lowering.specs.Questions.{usedWords, question4, question6, allBelow}
-use Rattle.lowering.proofs.Checked.{and-left}
+use Rattle.lowering.proofs.Questions.Checked.{and-left}
 
 pub past-used-words : (kind a b c : ℕ) → 15 ≤ kind → question4 kind a b c ≡ true
 unfolding question4

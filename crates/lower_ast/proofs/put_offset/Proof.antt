@@ -2,7 +2,7 @@
 use native.Mathlib.Omega.{arith}
 use borrow.Author.Needs.{needs}
 use Rattle.lowering.specs.Steps.{withOffset}
-use Rattle.lowering.proofs.Decode.{offset-small}
+use Rattle.lowering.proofs.Running.Decode.{offset-small}
 use Rattle.lower_ast.proofs.put_offset.Statement.{statement}
 use Rattle.lower_ast.proofs.put_offset.Tie as tie
 

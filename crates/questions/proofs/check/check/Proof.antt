@@ -2,7 +2,7 @@
 use mathlib.Core.Path.{sym, _∙_}
 use native.Mathlib.Omega.{arith}
 use borrow.Author.Tests.{not-true, not-false}
-use Rattle.lowering.proofs.Checked.{question1-sizes}
+use Rattle.lowering.proofs.Questions.Checked.{question1-sizes}
 use Rattle.questions.proofs.Asked.{askLast, last-passed, last-refused, refused-size, refused-root, nodes-answer}
 use borrow.Author.Needs.{needs}
 use Rattle.questions.proofs.check.check.Statement.{statement}

@@ -1,0 +1,3 @@
+-- The questions before the walk.
+pub mod Checked
+pub mod Passed

@@ -1,0 +1,20 @@
+-- The walk as a run of steps, and what is read off it: laws 1 and 2.
+pub mod StepsRun
+pub mod InstructionsFit
+pub mod NodesRun
+pub mod StepLaws
+pub mod NothingBeyond
+pub mod RootRuns
+pub mod LowerRuns
+pub mod WhatIsMet
+pub mod Answers
+pub mod SmallestFirst
+pub mod FrameSize
+pub mod Pool
+pub mod NothingCut
+pub mod ReachedNodes
+pub mod PoolOfLower
+pub mod MarksMade
+pub mod BuffersFull
+pub mod Refuted
+pub mod AnswersRefuted
