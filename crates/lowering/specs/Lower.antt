@@ -12,7 +12,6 @@ use Rattle.environment.specs.declared.Found.{Found}
 use Rattle.environment.specs.Environment.{lookup}
 use Rattle.syntax.specs.declared.ast.Node.{Node}
 use Rattle.syntax.specs.declared.ops.BinaryOp.{BinaryOp}
-use Rattle.syntax.specs.declared.ops.UnaryOp.{UnaryOp}
 use Rattle.syntax.specs.declared.ops.Comparison.{Comparison}
 use Rattle.syntax.specs.Ast.{absent}
 use Rattle.runtime.specs.declared.instruction.Instruction.{Instruction}
@@ -21,7 +20,7 @@ use Rattle.runtime.specs.Operands.{regOf}
 use Rattle.runtime.specs.Value.{numberOf}
 use Rattle.lowering.specs.declared.Dest.{Dest}
 use Rattle.lowering.specs.Tree.{Tree, node, spanStart, spanEnd}
-use Rattle.lowering.specs.Walk.{Made, Outcome, ends, stops, Walk, bind, _>>=_, _>>_, ret, error}
+use Rattle.lowering.specs.Walk.{stops, Walk, bind, _>>=_, _>>_, ret, error}
 use Rattle.lowering.specs.Steps.{destination, emit, store, loadConstant, patchJump, mark}
 use Rattle.lowering.specs.Operators.{binaryRR, binaryRK, binaryKR, unary, comparison, jumpRR, jumpRK, jumpKR, jumpIf}
 

@@ -1,11 +1,10 @@
 -- The whole of lowering, and patching: what comes back, and what is left in the buffers.
-use Prim.Native.Nat.{ℕ, zero, suc, _+_, _*_}
+use Prim.Native.Nat.{ℕ, zero, suc, _*_}
 use mathlib.Core.List.{List, [], _∷_}
 use mathlib.Core.Bool.{Bool, cond, _&&_}
 use lib.Dec.{leb, ltb}
 use lib.ListN.{length, getD}
 use Rattle.diagnostics.specs.declared.Refusal.{Refusal}
-use Rattle.diagnostics.specs.declared.Error.{Error}
 use Rattle.diagnostics.specs.Refusal.{numberOf}
 use Rattle.words.specs.Words.{words}
 use Rattle.words.specs.Records.{capacity}

@@ -17,9 +17,8 @@ use Rattle.runtime.specs.declared.operand.Operand.{Operand}
 use Rattle.runtime.specs.Operands.{regOf}
 use Rattle.runtime.specs.Instruction.{instructionWidth, hasDestination, offsetWord}
 use Rattle.runtime.specs.Function.{emitInstruction, storeConstant}
-use Rattle.lowering.specs.declared.State.{State}
 use Rattle.lowering.specs.declared.Dest.{Dest}
-use Rattle.lowering.specs.Walk.{Made, made, Outcome, ends, stops, Walk, bind, _>>=_, _>>_, ret, error, unnamed}
+use Rattle.lowering.specs.Walk.{Made, made, ends, stops, Walk, bind, _>>=_, _>>_, ret, error, unnamed}
 
 -- an index or a register that may be refused, with what is left
 unfoldable pub placed : Place → Walk ℕ

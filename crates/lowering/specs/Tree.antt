@@ -1,5 +1,5 @@
 -- The tree that is lowered: the words of its nodes, of its list and of its parameters' names.
-use Prim.Native.Nat.{ℕ, zero, suc, _*_}
+use Prim.Native.Nat.{ℕ, _*_}
 use mathlib.Core.List.{List, [], _∷_, _++_}
 use mathlib.Core.Bool.{cond}
 use lib.Dec.{eqb}

@@ -1,8 +1,7 @@
 -- What a search says can fail: `First` is false of another place. Assumes nothing.
 use Prim.Native.Nat.{ℕ}
 use native.Mathlib.Omega.{arith}
-use mathlib.Core.Path.{_≡_, refl, sym, _∙_}
-use mathlib.Core.Bool.{true, false, true≢false, false≢true}
+use mathlib.Core.Bool.{false, true≢false, false≢true}
 use mathlib.Core.List.{List, [], _∷_}
 use Rattle.words.specs.Records.{capacity, recordAt, sameWords, isAt, First}
 

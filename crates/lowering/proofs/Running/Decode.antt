@@ -15,10 +15,8 @@ use lib.Ieee.{binary64, fits, ofBits, toBits}
 use lib.Ieee.Bits.{ofBits-toBits, ofBits-fits}
 use Rattle.words.specs.Records.{recordAt}
 use Rattle.words.proofs.Records.{record-word}
-use Rattle.runtime.specs.declared.instruction.Instruction.{Instruction}
 use Rattle.runtime.specs.declared.operand.Operand.{Operand}
-use Rattle.runtime.proofs.Encoding.{length-words-of, decode-words-of}
-use Rattle.runtime.specs.Instruction.{instructionWidth, wordsOf, decode, offsetWord}
+use Rattle.runtime.specs.Instruction.{instructionWidth, offsetWord}
 use Rattle.runtime.specs.Value.{constantWidth, numberOf, constantWords}
 use Rattle.lowering.specs.Meaning.{Operators}
 use Rattle.lowering.specs.Machine.{constantOf}

@@ -32,10 +32,10 @@ use Rattle.lowering.specs.Steps.{freeTemp, emit, loadConstant}
 use Rattle.lowering.specs.Operators.{binaryRR, binaryRK, binaryKR, unary, jumpIf}
 use Rattle.lowering.specs.Lower.{Source, source, sameRegister, lowerMaterializing, moved, named, binarySources, lowerTail, lowerNode}
 use Rattle.lowering.specs.Meaning.{Answer, val, Unary, invert, Binary, property, Operators, Hypotheses, Worth, worth, given, andThen, IfAny, operate, unaryOf, tests, lastNamed, parameter, Chosen, Named, first, later, total}
-use Rattle.lowering.specs.Machine.{constantOf, failed, Registers, Now, action, act, fill, onward, branch, stepAt}
+use Rattle.lowering.specs.Machine.{constantOf, Registers, action, act, fill, onward, branch, stepAt}
 use Rattle.lowering.proofs.Running.Decode.{Proper, constant, constant-words, aim}
 use Rattle.lowering.proofs.Running.Steps.{had, Differ, differ, Holds, fine, void, chain, weaken, hit, miss, apart, count, registersOf, Held, Loose, Has, Room, Kept, kept-refl, kept-trans, Grown, grown-refl, grown-trans, grown-at, Emitted, Patched, Gave, emit-holds, patch-holds, pool-holds, give-holds}
-use Rattle.lowering.proofs.Running.MachineRuns.{After, worked, after-bind, ask-bind, after-map, after-ask, after-worth, Known, known-bind, known-given, pairOf, after-pair, World, Run, moved as moved-run, step-words, step-instruction, run-fill, run-branch, Fills, two-RR, two-RK, two-KR}
+use Rattle.lowering.proofs.Running.MachineRuns.{worked, after-bind, ask-bind, after-map, after-ask, after-worth, Known, known-bind, known-given, pairOf, after-pair, World, Run, moved as moved-run, step-words, step-instruction, run-fill, run-branch, Fills, two-RR, two-RK, two-KR}
 use Rattle.lowering.proofs.Running.Promise.{Final, earlier, past-patch, Target, Owns, grown-owns, Aimed, destination-good, Keeps, Onward, params-kept, Sim, Lowered, Expr, literal, settled, load-good, materialized-good}
 
 module _ (arity : ℕ) where

@@ -22,7 +22,7 @@ use Rattle.lowering.specs.Checked.{AllYes, FirstNo}
 use Rattle.lowering.specs.Walk.{Made, stops, left}
 use Rattle.lowering.specs.Steps.{freeTemp, withOffset}
 use Rattle.lowering.specs.Result.{Result, Lowered, result, leaves, begin, lowerRoot, answered, lowerChecked, lower, canPatch, Patched, patch}
-use Rattle.lowering.specs.Trace.{Runs, Own, JumpKind, instructionsOf, constantsOf, marksOf}
+use Rattle.lowering.specs.Trace.{Own, instructionsOf, constantsOf, marksOf}
 use Rattle.lowering.specs.Answers.{start, Untouched, Stopped, StopsWith, Tells, Ended, marksMade, markCount, Within, kind, MayPatch, MayNot, index-past, count-past, kind-below, kind-past, OneWord}
 use Rattle.lowering.proofs.Running.Decode.{offset-small}
 use Rattle.lowering.proofs.Questions.Checked.{questions-passed, questions-refused, and-left, and-right}

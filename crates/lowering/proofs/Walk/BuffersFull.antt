@@ -1,7 +1,7 @@
 -- 14 and 16 of `lower`: the count of constants and that of marks stay far below what 32 bits can say, so the buffer is full. Assumes nothing.
 use Prim.Native.Nat.{ℕ, _+_, _*_, _≤_, _<_}
 use native.Mathlib.Omega.{arith}
-use mathlib.Core.Path.{_≡_, refl, sym, ap, subst}
+use mathlib.Core.Path.{_≡_, sym, ap, subst}
 use mathlib.Core.Logic.{inl, inr}
 use mathlib.Core.List.{List}
 use lib.ListN.{length}

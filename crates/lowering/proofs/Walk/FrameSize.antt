@@ -18,7 +18,7 @@ use Rattle.lowering.specs.Tree.{Tree, treeOf}
 use Rattle.lowering.specs.Walk.{Made, Outcome, ends, Walk, left}
 use Rattle.lowering.specs.Steps.{withRegisters}
 use Rattle.lowering.specs.Result.{Lowered, begin, lower}
-use Rattle.lowering.specs.Trace.{Runs, step, returns, follows, halts, reads, counts, takes, gives, leaves, emits, finds, pools, patches, marks, moves, refuses, registersOf, Held, Free}
+use Rattle.lowering.specs.Trace.{Runs, step, returns, follows, halts, reads, counts, takes, gives, leaves, emits, finds, pools, patches, marks, moves, refuses, registersOf, Held}
 use Rattle.lowering.specs.Answers.{start}
 use Rattle.lowering.specs.Frame.{heldBelow, heldCount, frameOf, Smallest, highest, mostHeld, Every, Frames}
 use Rattle.lowering.proofs.Walk.SmallestFirst.{smallest-first as first}

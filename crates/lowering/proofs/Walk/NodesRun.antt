@@ -28,7 +28,7 @@ use Rattle.runtime.specs.Instruction.{wordsOf}
 use Rattle.lowering.specs.declared.Dest.{Dest}
 use Rattle.lowering.specs.Tree.{Tree, node, spanStart, spanEnd, present, entryNodes, children}
 use Rattle.lowering.specs.Walk.{Made, stops, Walk, _>>=_, _>>_, ret, error}
-use Rattle.lowering.specs.Steps.{destination, freeTemp, emit, loadConstant, patchJump}
+use Rattle.lowering.specs.Steps.{destination, emit, loadConstant, patchJump}
 use Rattle.lowering.specs.Operators.{binaryRR, binaryRK, binaryKR, unary, comparison, jumpRR, jumpRK, jumpKR, jumpIf}
 use Rattle.lowering.specs.Lower.{Source, register, constant, source, sameRegister, nameOf, materialized, lowerMaterializing, moved, named, binarySources, lowerArguments, storeNamed, storeKeyed, lowerEntry, lowerEntries, lowerElse, lowerTail, lowerNode, tested, fusedSources, fused, jumpNode}
 use Rattle.lowering.specs.Meaning.{Named, first, later, Reaches}

@@ -1,5 +1,5 @@
 -- Each law of the definition is false of the worked page with one wrong word or number: what it says can fail. Assumes nothing.
-use Prim.Native.Nat.{ℕ, zero, suc}
+use Prim.Native.Nat.{ℕ}
 use native.Mathlib.Omega.{arith}
 use mathlib.Core.Path.{_≡_, refl, sym, ap, _∙_}
 use mathlib.Core.Bool.{cond, false≢true}
@@ -33,11 +33,11 @@ use Rattle.lowering.specs.Walk.{Made, made, Outcome, ends, stops, Walk, 
 use Rattle.lowering.specs.Result.{Lowered, leaves, begin, lowerRoot, answered, lowerChecked, lower}
 use Rattle.lowering.specs.Smallest.{beforeRegister, SmallestFirst}
 use Rattle.lowering.specs.Meaning.{Worth, worth, fails, undefined, Named, first, later, Reaches, here, below}
-use Rattle.lowering.specs.Machine.{recordIn, fetch, constantAt, constantOf, target, action, returned, Registers, ended, act, stepAt, step, after}
-use Rattle.lowering.specs.Law.{Start, LawOf, runOf}
+use Rattle.lowering.specs.Machine.{recordIn, fetch, constantAt, constantOf, target, action, act, stepAt, step, after}
+use Rattle.lowering.specs.Law.{Start, LawOf}
 use Rattle.lowering.specs.Trace.{registersOf, Held, constantOfNode, Owned}
 use Rattle.lowering.specs.Answers.{start}
-use Rattle.lowering.specs.Instance.{Datum, number, string, boolean, nil, Mismatch, ieee, compared, numbers, alike, truthful}
+use Rattle.lowering.specs.Instance.{Datum, number, string, boolean, nil, Mismatch, compared, numbers, alike, truthful}
 use Rattle.lowering.specs.Examples.{pageNodes, pageTree, one, two, pageCode, pageConstants, pageWith, EndedOf, WithinOf, FramesOf, FitOf, noElse, noElseCode, noElseWith, StoppedOf, literal, takesOne, sumOfNames}
 use Rattle.lowering.proofs.Running.Instance.{page-start, page-worth}
 

@@ -6,7 +6,6 @@ use lib.ListN.{length}
 use Rattle.environment.specs.declared.Register.{Register}
 use Rattle.environment.specs.declared.Found.{Found}
 use Rattle.environment.specs.Environment.{allocated, lookup}
-use Rattle.environment.specs.Laws.{Last}
 use Rattle.environment.proofs.Laws.{Allocates, allocates, lookup-found}
 use Rattle.syntax.specs.declared.ast.Node.{Node}
 use Rattle.syntax.specs.declared.ops.BinaryOp.{BinaryOp}
@@ -18,7 +17,7 @@ use Rattle.lowering.specs.Tree.{Tree, node}
 use Rattle.lowering.specs.Walk.{Made, Outcome, ends, stops, Walk, bind, _>>=_, _>>_, ret}
 use Rattle.lowering.specs.Steps.{registered, withRegisters, allocateTemp, destination, freeTemp, emit, store, loadConstant}
 use Rattle.lowering.specs.Lower.{Source, register, constant, source, materialized, lowerMaterializing, moved, named, binarySources, lowerArguments, lowerNode, lowerExpression, lowerJumpIfFalse}
-use Rattle.lowering.specs.Smallest.{SmallestFree, beforeRegister, Took, SmallestFirst}
+use Rattle.lowering.specs.Smallest.{SmallestFree, beforeRegister, SmallestFirst}
 use Rattle.lowering.specs.Checked.{Checked}
 use Rattle.lowering.proofs.Bound.Lowering.{expression-at}
 use Rattle.lowering.proofs.Walk.WhatIsMet.{stop-end}
