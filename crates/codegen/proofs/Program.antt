@@ -11,7 +11,7 @@ use lib.ListN.{length}
 use denote.Ref.{RefT, now}
 use Rattle.diagnostics.specs.declared.Refusal.{Refusal}
 use Rattle.diagnostics.specs.declared.Error.{Error}
-use Rattle.diagnostics.specs.Refusal.{numberOf}
+use Rattle.diagnostics.specs.Refusal.{refusalNumber}
 use Rattle.words.specs.Words.{words, tail, bytesOf}
 use Rattle.words.specs.Records.{capacity}
 use Rattle.words.proofs.Words.{length-words, bytes-words}
@@ -99,10 +99,10 @@ module _ (lifetimes : Lifetimes) (nodesAt listAt namesAt codeAt constantsAt mark
   only = subst (λ x. x .number ≤ 18) (sym contract-result) (answers.only-lowering nodes root mode list names (words code) (words constants) (words marks))
 
   -- Own condition, of 1 to 8: the number and the place come back exactly where that question is the first one answered no, for the lowest such node.
-  pub own-condition-before : (refusal : Refusal) (place : ℕ) → 1 ≤ numberOf refusal → numberOf refusal ≤ 8 →
-      ((r .number ≡ numberOf refusal) × (r .place ≡ place)) ↔ FirstNo nodes list names mode root refusal place
+  pub own-condition-before : (refusal : Refusal) (place : ℕ) → 1 ≤ refusalNumber refusal → refusalNumber refusal ≤ 8 →
+      ((r .number ≡ refusalNumber refusal) × (r .place ≡ place)) ↔ FirstNo nodes list names mode root refusal place
   own-condition-before refusal place a b =
-      subst (λ x. ((x .number ≡ numberOf refusal) × (x .place ≡ place)) ↔ FirstNo nodes list names mode root refusal place) (sym contract-result)
+      subst (λ x. ((x .number ≡ refusalNumber refusal) × (x .place ≡ place)) ↔ FirstNo nodes list names mode root refusal place) (sym contract-result)
       (answers.own-condition-before nodes root mode list names (words code) (words constants) (words marks) refusal place a b)
 
   -- 14: no whole record is left for a constant.
@@ -119,7 +119,7 @@ module _ (lifetimes : Lifetimes) (nodesAt listAt namesAt codeAt constantsAt mark
 
   -- Own condition, of 9 to 18: number, place and span come back exactly where every question before the walk is answered yes and the walk stops with
   -- that refusal.
-  pub own-condition-exactly : (e : Error) → 9 ≤ numberOf (e .refusal) →
+  pub own-condition-exactly : (e : Error) → 9 ≤ refusalNumber (e .refusal) →
       Tells nodes root mode list names (words code) (words constants) (words marks) (numbers r) e
       ↔ StopsWith nodes root mode list names (words code) (words constants) (words marks) e
   own-condition-exactly e a =

@@ -3,7 +3,7 @@ use Prim.Native.Nat.{ℕ}
 use mathlib.Core.Bool.{Bool}
 use Rattle.diagnostics.specs.declared.Refusal.{Refusal}
 use Rattle.diagnostics.specs.declared.Error.{Error}
-use Rattle.diagnostics.specs.Refusal.{numberOf}
+use Rattle.diagnostics.specs.Refusal.{refusalNumber}
 use Rattle.lowering.specs.declared.State.{State}
 use Rattle.lowering.specs.Tree.{Tree, node}
 use Rattle.lowering.specs.Walk.{Walk, bind, _>>=_, _>>_, ret}
@@ -19,13 +19,13 @@ numbers r = definition.result (r .number) (r .place) (r .start) (r .end) (r .ins
 
 -- "Before the walk [..]; counts are 0"
 abbrev pub refusedResult : Refusal → ℕ → definition.Result
-refusedResult refusal place = definition.result (numberOf refusal) place 0 0 0 0 0 0
+refusedResult refusal place = definition.result (refusalNumber refusal) place 0 0 0 0 0 0
 
 -- the numbers of a walk that ended with a place, or was refused. (No walk of a root ends with an operand.)
 unfoldable pub resultOf : ℕ → State → Answer → definition.Result
 resultOf arity s (Answer.Operand x) = definition.result 0 0 0 0 (s .instructions) (s .constants) (s .registers .«frame_size») arity
 resultOf arity s (Answer.Place place) = definition.result 0 place 0 0 (s .instructions) (s .constants) (s .registers .«frame_size») arity
-resultOf arity s (Answer.Refused e) = definition.result (numberOf (e .refusal)) (e .place) (e .start) (e .end) (s .instructions) (s .constants) 0 0
+resultOf arity s (Answer.Refused e) = definition.result (refusalNumber (e .refusal)) (e .place) (e .start) (e .end) (s .instructions) (s .constants) 0 0
 
 -- modes 1 and 2, by the outcome at which the jump is taken
 abbrev pub conditional : Tree → Bool → ℕ → Walk ℕ

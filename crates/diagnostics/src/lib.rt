@@ -1,6 +1,6 @@
 // The refusals of document 01, by name (kaori's errors, panics and limits), and an index that may be refused.
 ghost use mathlib.Core.Path.{_≡_};
-ghost use Rattle.diagnostics.specs.Refusal.{numberOf};
+ghost use Rattle.diagnostics.specs.Refusal.{refusalNumber};
 
 pub enum Refusal {
     Size,
@@ -40,7 +40,7 @@ pub struct Error {
 
 impl Refusal {
     pub fn number(self) -> u32
-        ensures { λ r. ⌜ r ≡ numberOf self ⌝ }
+        ensures { λ r. ⌜ r ≡ refusalNumber self ⌝ }
     {
         match self {
             Refusal::Size => 1,

@@ -21,8 +21,8 @@ use Rattle.codegen.specs.Laws.{Bytes}
 use Rattle.codegen.proofs.Width.{exact-words}
 use Rattle.listing.specs.declared.text.Header.{Header}
 use Rattle.listing.specs.declared.text.Head.{Head}
-use Rattle.listing.specs.Text.{maxNodes, maxListWords, maxParameters, longestText, listWidth, nameWidth, readHeader, readNodes, readList, readNames, readText, filled}
-use Rattle.listing.specs.Output.{maxInstructions, maxConstants, maxMarks, longestListing, printed, listing, printTree, lowerlist}
+use Rattle.listing.specs.Text.{nodesBound, listWordsBound, parametersBound, longestText, listWidth, nameWidth, readHeader, readNodes, readList, readNames, readText, filled}
+use Rattle.listing.specs.Output.{instructionsBound, constantsBound, marksBound, longestListing, printed, listing, printTree, lowerlist}
 use Rattle.listing.proofs.Written.{printed-length}
 use Rattle.listing.proofs.Only.{text-only}
 use Rattle.listing.proofs.Program.{zero-words, length-zeros, text-bounds, nodes-bytes, list-bytes, names-bytes, lowered-prints, good-prints, bad-prints}
@@ -58,15 +58,15 @@ module _ (nodes : List ℕ) (bytes : Bytes nodes) (root mode : ℕ) (list names 
       ap listing (same ∙ zero)
 
   abbrev bounded : Lowered
-  bounded = left (instructionWidth * maxInstructions) (constantWidth * maxConstants) maxMarks
+  bounded = left (instructionWidth * instructionsBound) (constantWidth * constantsBound) marksBound
 
   pub tree-listing : (r : Result) {code constants marks : List ℕ} → numbers r ≡ bounded .result
-      → code ≡ bytesOf (bounded .code) ++ tail (zeros (instructionWidth * maxInstructions))
-      → constants ≡ bytesOf (bounded .constants) ++ tail (zeros (constantWidth * maxConstants))
-      → marks ≡ bytesOf (bounded .marks) ++ tail (zeros maxMarks)
+      → code ≡ bytesOf (bounded .code) ++ tail (zeros (instructionWidth * instructionsBound))
+      → constants ≡ bytesOf (bounded .constants) ++ tail (zeros (constantWidth * constantsBound))
+      → marks ≡ bytesOf (bounded .marks) ++ tail (zeros marksBound)
       → printed (numbersOf (numbers r)) (words code) (words constants) ≡ treeListing nodes root mode list names
   unfolding treeListing
-  tree-listing r a b c d = lowered-listing (instructionWidth * maxInstructions) (constantWidth * maxConstants) maxMarks r a b c d
+  tree-listing r a b c d = lowered-listing (instructionWidth * instructionsBound) (constantWidth * constantsBound) marksBound r a b c d
 
 -- ---- a text
 
@@ -77,7 +77,7 @@ module _ (s : List ℕ) (h : Header) (e : readText s ≡ Head.Good h) where
     pub list-fits : 4 * h .list ≤ b
     pub names-fit : 4 * h .names ≤ c
 
-  pub fits : {a b c : ℕ} → a ≡ 24 * maxNodes → b ≡ 4 * maxListWords → c ≡ 4 * maxParameters → Fits a b c
+  pub fits : {a b c : ℕ} → a ≡ 24 * nodesBound → b ≡ 4 * listWordsBound → c ≡ 4 * parametersBound → Fits a b c
   fits p q r =
       let t = text-bounds s h e in
       record { nodes-fit = omega (arith, t .0); list-fits = omega (arith, t .1); names-fit = omega (arith, t .2) }
@@ -86,16 +86,16 @@ module _ (s : List ℕ) (h : Header) (e : readText s ≡ Head.Good h) where
   room n most l = rw (length-zeros most) l
 
   pub good-listing : {nodes list names : List ℕ}
-      → nodes ≡ filled readNodes (readHeader s) s (replicate (4 * (nodeWidth * maxNodes)) 0)
-      → list ≡ filled readList (readHeader s) s (replicate (4 * (listWidth * maxListWords)) 0)
-      → names ≡ filled readNames (readHeader s) s (replicate (4 * (nameWidth * maxParameters)) 0)
+      → nodes ≡ filled readNodes (readHeader s) s (replicate (4 * (nodeWidth * nodesBound)) 0)
+      → list ≡ filled readList (readHeader s) s (replicate (4 * (listWidth * listWordsBound)) 0)
+      → names ≡ filled readNames (readHeader s) s (replicate (4 * (nameWidth * parametersBound)) 0)
       → treeListing (take (24 * h .nodes) nodes) (h .root) (h .mode) (take (4 * h .list) list) (take (4 * h .names) names) ≡ lowerlist s
   unfolding treeListing
   good-listing a b c =
       let t = text-bounds s h e in
-      let first = nodes-bytes s h e _ a (room (nodeWidth * h .nodes) (nodeWidth * maxNodes) (omega (arith, t .0))) in
-      let second = list-bytes s h e _ b (room (listWidth * h .list) (listWidth * maxListWords) (omega (arith, t .1))) in
-      let third = names-bytes s h e _ c (room (nameWidth * h .names) (nameWidth * maxParameters) (omega (arith, t .2))) in
+      let first = nodes-bytes s h e _ a (room (nodeWidth * h .nodes) (nodeWidth * nodesBound) (omega (arith, t .0))) in
+      let second = list-bytes s h e _ b (room (listWidth * h .list) (listWidth * listWordsBound) (omega (arith, t .1))) in
+      let third = names-bytes s h e _ c (room (nameWidth * h .names) (nameWidth * parametersBound) (omega (arith, t .2))) in
       lowered-prints s h e first second third refl refl refl refl
 
 pub bad-listing : (s : List ℕ) → readText s ≡ Head.Bad → printTree none ≡ lowerlist s
@@ -130,9 +130,9 @@ length-lowerlist s = go (readText s) refl
         (omega (
           arith,
           length-listing (bytesOf (readNodes h s .words)) (h .root) (h .mode) (bytesOf (readList h s .words)) (bytesOf (readNames h s .words))
-              (replicate (instructionWidth * maxInstructions) 0) (replicate (constantWidth * maxConstants) 0) (replicate maxMarks 0),
-          code-capacity maxInstructions,
-          constants-capacity maxConstants,
+              (replicate (instructionWidth * instructionsBound) 0) (replicate (constantWidth * constantsBound) 0) (replicate marksBound 0),
+          code-capacity instructionsBound,
+          constants-capacity constantsBound,
         ))
 
 -- a count of bytes that were printed, and a buffer of so many bytes

@@ -6,13 +6,13 @@ use lib.ListN.{length, take, drop, replicate}
 use Rattle.runtime.specs.Instruction.{instructionWidth}
 use Rattle.runtime.specs.Value.{constantWidth}
 use Rattle.lowering.specs.Result.{lower}
-use Rattle.listing.specs.Output.{maxInstructions, maxConstants, maxMarks, longestListing, listing}
+use Rattle.listing.specs.Output.{instructionsBound, constantsBound, marksBound, longestListing, listing}
 
 -- "2,048 instructions, 512 constants, 512 marks", all zeros at first
 unfoldable pub treeListing : List ℕ → ℕ → ℕ → List ℕ → List ℕ → List ℕ
 treeListing nodes root mode list names =
     listing (lower nodes root mode list names
-    (replicate (instructionWidth * maxInstructions) 0) (replicate (constantWidth * maxConstants) 0) (replicate maxMarks 0))
+    (replicate (instructionWidth * instructionsBound) 0) (replicate (constantWidth * constantsBound) 0) (replicate marksBound 0))
 
 -- The bytes of a listing are printed into a buffer that has the bytes `out` before and `out′` after, and `size` comes back.
 pub record Prints (bytes out out′ : List ℕ) (size : ℕ) : Type 0 where

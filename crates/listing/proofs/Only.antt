@@ -16,7 +16,7 @@ use Rattle.listing.specs.declared.column.Column.{Column}
 use Rattle.listing.specs.declared.text.Header.{Header}
 use Rattle.listing.specs.declared.text.Head.{Head}
 use Rattle.listing.specs.Column.{columnBytes, space, digitZero, maxWord, isDigit, first, more, step, readBytes, readColumn, padding, padded, writeColumn}
-use Rattle.listing.specs.Text.{maxNodes, maxListWords, maxParameters, lineFeed, lineBytes, Read, gives, behind, readLine, below, readLines, headerWidth, listWidth, nameWidth, headerOf, nodesAt, listAt, namesAt, textBytes, within, headed, readHeader, readNodes, readList, readNames, checked, readText, Tree, treeOf, readTree}
+use Rattle.listing.specs.Text.{nodesBound, listWordsBound, parametersBound, lineFeed, lineBytes, Read, gives, behind, readLine, below, readLines, headerWidth, listWidth, nameWidth, headerOf, nodesAt, listAt, namesAt, textBytes, within, headed, readHeader, readNodes, readList, readNames, checked, readText, Tree, treeOf, readTree}
 use Rattle.listing.specs.Output.{writeLine, writeLines, headerWords, writeTree, Words, Fits}
 use Rattle.listing.proofs.Columns.{false≢true, and-true, digit-bounds, read-short, steps, steps-append, read-steps}
 use Rattle.listing.proofs.Lines.{line-width}
@@ -282,12 +282,12 @@ module _ (s : List ℕ) (h : Header) (g : GoodText s h) where
   fits-only : Fits given
   unfolding headerOf
   fits-only =
-      let outer = and-true (leb (h .nodes) maxNodes && leb (h .list) maxListWords) (leb (h .names) maxParameters) (g .header .bounds) in
-      let inner = and-true (leb (h .nodes) maxNodes) (leb (h .list) maxListWords) (outer .0) in
+      let outer = and-true (leb (h .nodes) nodesBound && leb (h .list) listWordsBound) (leb (h .names) parametersBound) (g .header .bounds) in
+      let inner = and-true (leb (h .nodes) nodesBound) (leb (h .list) listWordsBound) (outer .0) in
       let words = line-only headerWidth s (g .header .line) .1 in
-      let few : h .nodes ≤ maxNodes = leb-true (h .nodes) maxNodes (inner .0) in
-      let short : h .list ≤ maxListWords = leb-true (h .list) maxListWords (inner .1) in
-      let named : h .names ≤ maxParameters = leb-true (h .names) maxParameters (outer .1) in
+      let few : h .nodes ≤ nodesBound = leb-true (h .nodes) nodesBound (inner .0) in
+      let short : h .list ≤ listWordsBound = leb-true (h .list) listWordsBound (inner .1) in
+      let named : h .names ≤ parametersBound = leb-true (h .names) parametersBound (outer .1) in
       record {
         whole = omega (arith, nodes-only .2);
         few-nodes = omega (arith, nodes-only .2);

@@ -16,8 +16,8 @@ use Rattle.runtime.specs.Value.{constantWidth}
 use Rattle.lowering.specs.Result.{Lowered, lower}
 use Rattle.listing.specs.declared.text.Header.{Header}
 use Rattle.listing.specs.declared.text.Head.{Head}
-use Rattle.listing.specs.Text.{maxNodes, maxListWords, maxParameters, Read, listWidth, nameWidth, readHeader, readNodes, readList, readNames, readText, treeOf, readTree, filled}
-use Rattle.listing.specs.Output.{maxInstructions, maxConstants, maxMarks, writeLines, printed, listing, lowerTree, printTree, lowerlist}
+use Rattle.listing.specs.Text.{nodesBound, listWordsBound, parametersBound, Read, listWidth, nameWidth, readHeader, readNodes, readList, readNames, readText, treeOf, readTree, filled}
+use Rattle.listing.specs.Output.{instructionsBound, constantsBound, marksBound, writeLines, printed, listing, lowerTree, printTree, lowerlist}
 use Rattle.listing.proofs.Columns.{and-true}
 use Rattle.listing.proofs.Only.{text-only, nodes-only, list-only, names-only}
 
@@ -48,11 +48,11 @@ stored-bytes vs ws rest l =
     rw (split, append-assoc (bytesOf ws) (bytesOf behind) rest) (take-at (bytesOf ws) (bytesOf behind ++ rest) (4 * length ws) (length-bytes ws))
 
 module _ (s : List ℕ) (h : Header) (e : readText s ≡ Head.Good h) where
-  pub text-bounds : (h .nodes ≤ maxNodes) × (h .list ≤ maxListWords) × (h .names ≤ maxParameters)
+  pub text-bounds : (h .nodes ≤ nodesBound) × (h .list ≤ listWordsBound) × (h .names ≤ parametersBound)
   text-bounds =
-      let outer = and-true (leb (h .nodes) maxNodes && leb (h .list) maxListWords) (leb (h .names) maxParameters) (text-only s h e .header .bounds) in
-      let inner = and-true (leb (h .nodes) maxNodes) (leb (h .list) maxListWords) (outer .0) in
-      (leb-true (h .nodes) maxNodes (inner .0), leb-true (h .list) maxListWords (inner .1), leb-true (h .names) maxParameters (outer .1))
+      let outer = and-true (leb (h .nodes) nodesBound && leb (h .list) listWordsBound) (leb (h .names) parametersBound) (text-only s h e .header .bounds) in
+      let inner = and-true (leb (h .nodes) nodesBound) (leb (h .list) listWordsBound) (outer .0) in
+      (leb-true (h .nodes) nodesBound (inner .0), leb-true (h .list) listWordsBound (inner .1), leb-true (h .names) parametersBound (outer .1))
 
   -- what reading leaves in a buffer that has place for it: the bytes of the part's words
   part-bytes : (reads : Header → List ℕ → Read) (w n : ℕ) → length (reads h s .words) ≡ w * n → {vs : List ℕ} (bytes : List ℕ)
@@ -78,14 +78,14 @@ module _ (s : List ℕ) (h : Header) (e : readText s ≡ Head.Good h) where
   -- a good text prints the listing of its tree's lowering
   pub good-prints : lowerlist s ≡ listing
       (lower (bytesOf (readNodes h s .words)) (h .root) (h .mode) (bytesOf (readList h s .words)) (bytesOf (readNames h s .words))
-      (replicate (instructionWidth * maxInstructions) 0) (replicate (constantWidth * maxConstants) 0) (replicate maxMarks 0))
+      (replicate (instructionWidth * instructionsBound) 0) (replicate (constantWidth * constantsBound) 0) (replicate marksBound 0))
   unfolding lowerlist readTree treeOf printTree lowerTree
   good-prints = rw e
 
   -- and so does what lowering leaves, of those bytes and of buffers of zeros
   module _ {nodes list names code constants marks : List ℕ} where
     pub lowered-prints : nodes ≡ bytesOf (readNodes h s .words) → list ≡ bytesOf (readList h s .words) → names ≡ bytesOf (readNames h s .words)
-        → code ≡ replicate (instructionWidth * maxInstructions) 0 → constants ≡ replicate (constantWidth * maxConstants) 0 → marks ≡ replicate maxMarks 0
+        → code ≡ replicate (instructionWidth * instructionsBound) 0 → constants ≡ replicate (constantWidth * constantsBound) 0 → marks ≡ replicate marksBound 0
         → {l : Lowered} → l ≡ lower nodes (h .root) (h .mode) list names code constants marks → listing l ≡ lowerlist s
     lowered-prints a b c k p m e = ap listing (e ∙ rw (a, b, c, k, p, m)) ∙ sym good-prints
 

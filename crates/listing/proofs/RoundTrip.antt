@@ -14,7 +14,7 @@ use Rattle.listing.specs.declared.column.Column.{Column}
 use Rattle.listing.specs.declared.text.Header.{Header}
 use Rattle.listing.specs.declared.text.Head.{Head}
 use Rattle.listing.specs.Column.{columnBytes, maxWord, writeColumn}
-use Rattle.listing.specs.Text.{maxNodes, maxListWords, maxParameters, lineBytes, gives, behind, readLine, below, readLines, headerWidth, listWidth, nameWidth, headerOf, nodesAt, listAt, namesAt, textBytes, within, readHeader, readNodes, readList, readNames, readText, Tree, treeOf, readTree}
+use Rattle.listing.specs.Text.{nodesBound, listWordsBound, parametersBound, lineBytes, gives, behind, readLine, below, readLines, headerWidth, listWidth, nameWidth, headerOf, nodesAt, listAt, namesAt, textBytes, within, readHeader, readNodes, readList, readNames, readText, Tree, treeOf, readTree}
 use Rattle.listing.specs.Output.{writeLine, writeLines, headerWords, writeTree, Words, Fits}
 use Rattle.listing.proofs.Columns.{column-back, length-column}
 use Rattle.listing.proofs.Written.{length-line, length-lines}
@@ -129,9 +129,9 @@ module _ (t : Tree) where
     good-header =
         let g : readLine headerWidth (writeTree t) .good ≡ true = rw header-read in
         let h : header ≡ headerOf (readLine headerWidth (writeTree t) .words) = rw header-read in
-        let nodes = le-leb count maxNodes (f .few-nodes) in
-        let list = le-leb (length (t .list)) maxListWords (f .few-words) in
-        let names = le-leb (length (t .names)) maxParameters (f .few-names) in
+        let nodes = le-leb count nodesBound (f .few-nodes) in
+        let list = le-leb (length (t .list)) listWordsBound (f .few-words) in
+        let names = le-leb (length (t .names)) parametersBound (f .few-names) in
         let i : within header ≡ true = rw (nodes, list, names) in
         sym (header-good (writeTree t) header g h i (ap length parts ∙ length-names))
 

@@ -5,14 +5,14 @@ use mathlib.Core.List.{List, [], _∷_, _++_}
 use mathlib.Core.Option.{Option, none, some}
 use lib.ListN.{length, getD, drop, replicate}
 use Rattle.diagnostics.specs.declared.Refusal.{Refusal}
-use Rattle.diagnostics.specs.Refusal.{numberOf}
+use Rattle.diagnostics.specs.Refusal.{refusalNumber}
 use Rattle.words.specs.Words.{bytesOf}
 use Rattle.syntax.specs.Ast.{nodeWidth}
 use Rattle.runtime.specs.Instruction.{instructionWidth}
 use Rattle.runtime.specs.Value.{constantWidth}
 use Rattle.lowering.specs.Result.{result, numbersOf, Lowered, lower}
 use Rattle.listing.specs.Column.{maxWord, writeColumn}
-use Rattle.listing.specs.Text.{lineFeed, lineBytes, headerWidth, listWidth, nameWidth, maxNodes, maxListWords, maxParameters, Tree, readTree}
+use Rattle.listing.specs.Text.{lineFeed, lineBytes, headerWidth, listWidth, nameWidth, nodesBound, listWordsBound, parametersBound, Tree, readTree}
 
 -- a line of w columns: the first w words of ws, 0 past the last, and a line feed
 unfoldable pub writeLine : ℕ → List ℕ → List ℕ
@@ -36,27 +36,27 @@ unfoldable pub listing : Lowered → List ℕ
 listing l = printed (numbersOf (l .result)) (l .code) (l .constants)
 
 -- "Bounds: [..] 2,048 instructions, 512 constants, 512 marks": the program's buffers, all zeros at first
-abbrev pub maxInstructions : ℕ
-maxInstructions = 2048
+abbrev pub instructionsBound : ℕ
+instructionsBound = 2048
 
-abbrev pub maxConstants : ℕ
-maxConstants = 512
+abbrev pub constantsBound : ℕ
+constantsBound = 512
 
-abbrev pub maxMarks : ℕ
-maxMarks = 512
+abbrev pub marksBound : ℕ
+marksBound = 512
 
 -- the bytes of the longest listing: the eight numbers, and as many instructions and constants as the buffers hold, one a line
 abbrev pub longestListing : ℕ
-longestListing = lineBytes resultWidth + lineBytes instructionWidth * maxInstructions + lineBytes constantWidth * maxConstants
+longestListing = lineBytes resultWidth + lineBytes instructionWidth * instructionsBound + lineBytes constantWidth * constantsBound
 
 unfoldable pub lowerTree : Tree → Lowered
 lowerTree t =
     lower (bytesOf (t .nodes)) (t .root) (t .mode) (bytesOf (t .list)) (bytesOf (t .names))
-    (replicate (instructionWidth * maxInstructions) 0) (replicate (constantWidth * maxConstants) 0) (replicate maxMarks 0)
+    (replicate (instructionWidth * instructionsBound) 0) (replicate (constantWidth * constantsBound) 0) (replicate marksBound 0)
 
 -- "Text laid out otherwise or past them prints number 1 and zeros."
 unfoldable pub printTree : Option Tree → List ℕ
-printTree none = printed (numbersOf (result (numberOf Refusal.Size) 0 0 0 0 0 0 0)) [] []
+printTree none = printed (numbersOf (result (refusalNumber Refusal.Size) 0 0 0 0 0 0 0)) [] []
 printTree (some t) = listing (lowerTree t)
 
 -- the program: from the bytes of its standard input to those of its standard output
@@ -81,9 +81,9 @@ Words ws = (i : ℕ) → getD ws i 0 ≤ maxWord
 -- a tree that a text can give: whole nodes, within the bounds, and words
 pub record Fits (t : Tree) : Type 0 where
   pub whole : length (t .nodes) ≡ nodeWidth * (length (t .nodes) / nodeWidth)
-  pub few-nodes : length (t .nodes) / nodeWidth ≤ maxNodes
-  pub few-words : length (t .list) ≤ maxListWords
-  pub few-names : length (t .names) ≤ maxParameters
+  pub few-nodes : length (t .nodes) / nodeWidth ≤ nodesBound
+  pub few-words : length (t .list) ≤ listWordsBound
+  pub few-names : length (t .names) ≤ parametersBound
   pub mode : t .mode ≤ maxWord
   pub root : t .root ≤ maxWord
   pub nodes : Words (t .nodes)

@@ -76,21 +76,21 @@ abbrev pub textBytes : Header → ℕ
 textBytes h = namesAt h + lineBytes nameWidth * h .names
 
 -- "Bounds: 512 nodes, 512 list words, 256 parameters"
-abbrev pub maxNodes : ℕ
-maxNodes = 512
+abbrev pub nodesBound : ℕ
+nodesBound = 512
 
-abbrev pub maxListWords : ℕ
-maxListWords = 512
+abbrev pub listWordsBound : ℕ
+listWordsBound = 512
 
-abbrev pub maxParameters : ℕ
-maxParameters = 256
+abbrev pub parametersBound : ℕ
+parametersBound = 256
 
 -- the bytes of the longest text that is within the bounds: a header, and as many nodes, list words and parameters as there may be, one a line
 abbrev pub longestText : ℕ
-longestText = nodesAt + lineBytes nodeWidth * maxNodes + lineBytes listWidth * maxListWords + lineBytes nameWidth * maxParameters
+longestText = nodesAt + lineBytes nodeWidth * nodesBound + lineBytes listWidth * listWordsBound + lineBytes nameWidth * parametersBound
 
 abbrev pub within : Header → Bool
-within h = leb (h .nodes) maxNodes && leb (h .list) maxListWords && leb (h .names) maxParameters
+within h = leb (h .nodes) nodesBound && leb (h .list) listWordsBound && leb (h .names) parametersBound
 
 -- a header in its bounds, with a text as long as it says: "nothing after the last line"
 unfoldable pub headed : Read → ℕ → Head

@@ -6,7 +6,7 @@ use mathlib.Core.List.{List}
 use mathlib.Core.Option.{some}
 use lib.ListN.{length, getD}
 use Rattle.diagnostics.specs.declared.Error.{Error}
-use Rattle.diagnostics.specs.Refusal.{numberOf}
+use Rattle.diagnostics.specs.Refusal.{refusalNumber}
 use Rattle.words.specs.Words.{words}
 use Rattle.words.specs.Records.{capacity}
 use Rattle.syntax.specs.declared.ast.Node.{Node}
@@ -41,7 +41,7 @@ module _ (nodes : List ℕ) (root mode : ℕ) (list names code constants marks :
     -- what the walk comes to
     pub is : lowerRoot freeTemp (treeOf nodes list names) mode root start ≡ stops error made
     pub own : Own (treeOf nodes list names) root error made
-    pub shown : l ≡ leaves (result (numberOf (error .refusal)) (error .place) (error .start) (error .end) (instructionsOf made) (constantsOf made) 0 0) made
+    pub shown : l ≡ leaves (result (refusalNumber (error .refusal)) (error .place) (error .start) (error .end) (instructionsOf made) (constantsOf made) 0 0) made
 
   -- Exactly so: number, place and span come back where, and only where, every question before the walk is answered yes and the walk stops with that
   -- refusal.
@@ -52,7 +52,7 @@ module _ (nodes : List ℕ) (root mode : ℕ) (list names code constants marks :
 
   -- the four numbers of a refusal
   pub record Tells (r : Result) (e : Error) : Type 0 where
-    pub number : r .number ≡ numberOf (e .refusal)
+    pub number : r .number ≡ refusalNumber (e .refusal)
     pub place : r .place ≡ e .place
     pub start : r .start ≡ e .start
     pub end : r .end ≡ e .end

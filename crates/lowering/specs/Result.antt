@@ -5,7 +5,7 @@ use mathlib.Core.Bool.{Bool, cond, _&&_}
 use lib.Dec.{leb, ltb}
 use lib.ListN.{length, getD}
 use Rattle.diagnostics.specs.declared.Refusal.{Refusal}
-use Rattle.diagnostics.specs.Refusal.{numberOf}
+use Rattle.diagnostics.specs.Refusal.{refusalNumber}
 use Rattle.words.specs.Words.{words}
 use Rattle.words.specs.Records.{capacity}
 use Rattle.environment.specs.declared.Register.{Register}
@@ -82,12 +82,12 @@ leaves r m = record { result = r; code = m .code; constants = m .constants; mark
 -- "In modes 1 and 2 an accepted place is the jump's; otherwise 0." "On refusal the last two are 0."
 unfoldable pub answered : ℕ → Outcome ℕ → Lowered
 answered arity (ends place m) = leaves (result 0 place 0 0 (m .state .instructions) (m .state .constants) (m .state .registers .«frame_size») arity) m
-answered arity (stops e m) = leaves (result (numberOf (e .refusal)) (e .place) (e .start) (e .end) (m .state .instructions) (m .state .constants) 0 0) m
+answered arity (stops e m) = leaves (result (refusalNumber (e .refusal)) (e .place) (e .start) (e .end) (m .state .instructions) (m .state .constants) 0 0) m
 
 -- "Before the walk [..]; counts are 0": nothing is written
 unfoldable pub lowerChecked : (Register → Walk Unit) → Verdict → Tree → ℕ → ℕ → Made → Lowered
 lowerChecked giveBack passed t mode root m = answered (length (t .names)) (lowerRoot giveBack t mode root m)
-lowerChecked giveBack (refused refusal place) t mode root m = leaves (result (numberOf refusal) place 0 0 0 0 0 0) m
+lowerChecked giveBack (refused refusal place) t mode root m = leaves (result (refusalNumber refusal) place 0 0 0 0 0 0) m
 
 -- Lowering. `giveBack` gives a register back; the tree is given in bytes, the buffers in words.
 abbrev pub lowerBy : (Register → Walk Unit) → List ℕ → ℕ → ℕ → List ℕ → List ℕ → List ℕ → List ℕ → List ℕ → Lowered
@@ -113,4 +113,4 @@ unfoldable pub patch : List ℕ → ℕ → ℕ → ℕ → Patched
 patch code count index offset =
     cond (canPatch code count index)
     (record { number = 0; code = withOffset code index offset })
-    (record { number = numberOf Refusal.Jump; code = code })
+    (record { number = refusalNumber Refusal.Jump; code = code })

@@ -8,7 +8,7 @@ use mathlib.Core.Logic.{_≢_}
 use mathlib.Core.List.{List}
 use lib.ListN.{length}
 use Rattle.diagnostics.specs.declared.Refusal.{Refusal}
-use Rattle.diagnostics.specs.Refusal.{numberOf}
+use Rattle.diagnostics.specs.Refusal.{refusalNumber}
 use Rattle.words.specs.Words.{words}
 use Rattle.lowering.specs.Tree.{treeOf, Tree}
 use Rattle.lowering.specs.Questions.{Verdict, passed, refused, questions}
@@ -24,7 +24,7 @@ pub stands-itself : (w n : ℕ) (ws : List ℕ) → StandsIn w ws n ws n 0
 stands-itself w n ws i h = let e : 0 + i ≡ i = zero-add i in (omega arith, rw e)
 
 -- no refusal has number 0
-pub number-positive : (r : Refusal) → numberOf r ≢ 0
+pub number-positive : (r : Refusal) → refusalNumber r ≢ 0
 number-positive Refusal.Size e = omega arith
 number-positive Refusal.Root e = omega arith
 number-positive Refusal.Kind e = omega arith

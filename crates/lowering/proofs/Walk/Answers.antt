@@ -12,7 +12,7 @@ use lib.Seq.{getD-set-same, getD-set-other}
 use borrow.Author.Tests.{leb-true, ltb-true, lt-ltb, le-leb}
 use Rattle.diagnostics.specs.declared.Refusal.{Refusal}
 use Rattle.diagnostics.specs.declared.Error.{Error}
-use Rattle.diagnostics.specs.Refusal.{numberOf}
+use Rattle.diagnostics.specs.Refusal.{refusalNumber}
 use Rattle.words.specs.Words.{words}
 use Rattle.words.specs.Records.{capacity}
 use Rattle.words.proofs.Records.{room}
@@ -38,7 +38,7 @@ refusalOf n = getD
     Refusal.Undeclared ∷ Refusal.Registers ∷ Refusal.Else ∷ Refusal.Key ∷ Refusal.Code ∷ Refusal.Constants ∷ Refusal.Unmarked ∷ Refusal.Marks ∷
     Refusal.Destination ∷ Refusal.Sum ∷ Refusal.Jump ∷ []) n Refusal.Size
 
-refusal-of-number : (r : Refusal) → refusalOf (numberOf r) ≡ r
+refusal-of-number : (r : Refusal) → refusalOf (refusalNumber r) ≡ r
 unfolding refusalOf
 refusal-of-number Refusal.Size = refl
 refusal-of-number Refusal.Root = refl
@@ -84,16 +84,16 @@ module _ (nodes : List ℕ) (root mode : ℕ) (list names code constants marks :
 
   -- ---- Own condition of 1 to 8: the number and the place come back exactly where that question is the first one answered no, there
 
-  own-first : {l : Lowered} → Came nodes root mode list names code constants marks l → (r : Refusal) (place : ℕ) → numberOf r ≤ 8 → 1 ≤ numberOf r →
-      l .result .number ≡ numberOf r → l .result .place ≡ place → FirstNo nodes list names mode root r place
+  own-first : {l : Lowered} → Came nodes root mode list names code constants marks l → (r : Refusal) (place : ℕ) → refusalNumber r ≤ 8 → 1 ≤ refusalNumber r →
+      l .result .number ≡ refusalNumber r → l .result .place ≡ place → FirstNo nodes list names mode root r place
   own-first (before {r = q} {place = p} h) r place a b e f =
       let same : q ≡ r = sym (refusal-of-number q) ∙ ap refusalOf e ∙ refusal-of-number r in
       subst (λ x. FirstNo nodes list names mode root x place) same (subst (λ x. FirstNo nodes list names mode root q x) f h)
   own-first (accepted y e' r') r place a b e f = absurd (omega arith)
   own-first (stopped y e' r' o) r place a b e f = absurd (omega (arith, own-number o .0))
 
-  pub own-condition-before : (r : Refusal) (place : ℕ) → 1 ≤ numberOf r → numberOf r ≤ 8 →
-      ((lower nodes root mode list names code constants marks .result .number ≡ numberOf r) × (lower nodes root mode list names code constants marks .result .place ≡ place)) ↔ FirstNo nodes list names mode root r place
+  pub own-condition-before : (r : Refusal) (place : ℕ) → 1 ≤ refusalNumber r → refusalNumber r ≤ 8 →
+      ((lower nodes root mode list names code constants marks .result .number ≡ refusalNumber r) × (lower nodes root mode list names code constants marks .result .place ≡ place)) ↔ FirstNo nodes list names mode root r place
   unfolding lower lowerChecked
   own-condition-before r place a b = (
     λ h. own-first (lower-came nodes root mode list names code constants marks) r place b a (h .0) (h .1),
@@ -110,14 +110,14 @@ module _ (nodes : List ℕ) (root mode : ℕ) (list names code constants marks :
   pub own-condition-walk : 9 ≤ lower nodes root mode list names code constants marks .result .number → Stopped nodes root mode list names code constants marks (lower nodes root mode list names code constants marks)
   own-condition-walk = own-later (lower-came nodes root mode list names code constants marks)
 
-  told-stops : {l : Lowered} → Came nodes root mode list names code constants marks l → (e : Error) → 9 ≤ numberOf (e .refusal) → Tells nodes root mode list names code constants marks (l .result) e → StopsWith nodes root mode list names code constants marks e
+  told-stops : {l : Lowered} → Came nodes root mode list names code constants marks l → (e : Error) → 9 ≤ refusalNumber (e .refusal) → Tells nodes root mode list names code constants marks (l .result) e → StopsWith nodes root mode list names code constants marks e
   told-stops (before h) e a k = absurd (omega (arith, first-number h .1, k .number))
   told-stops (accepted y q r) e a k = absurd (omega (arith, k .number))
   told-stops (stopped {e = f} {m = m} y q r o) e a k =
       let same : f .refusal ≡ e .refusal = sym (refusal-of-number (f .refusal)) ∙ ap refusalOf (k .number) ∙ refusal-of-number (e .refusal) in
       record { yes = y; made = m; is = q ∙ (λ i. stops (record { refusal = same i; place = k .place i; start = k .start i; end = k .end i }) m) }
 
-  pub own-condition-exactly : (e : Error) → 9 ≤ numberOf (e .refusal) → Tells nodes root mode list names code constants marks (lower nodes root mode list names code constants marks .result) e ↔ StopsWith nodes root mode list names code constants marks e
+  pub own-condition-exactly : (e : Error) → 9 ≤ refusalNumber (e .refusal) → Tells nodes root mode list names code constants marks (lower nodes root mode list names code constants marks .result) e ↔ StopsWith nodes root mode list names code constants marks e
   unfolding lower lowerChecked answered
   own-condition-exactly e a = (
     told-stops (lower-came nodes root mode list names code constants marks) e a,
@@ -198,7 +198,7 @@ module _ (nodes : List ℕ) (root mode : ℕ) (list names code constants marks :
 
 module _ (words : List ℕ) (count index offset : ℕ) where
   abbrev chosen : Bool → Patched
-  chosen b = cond b (record { number = 0; code = withOffset words index offset }) (record { number = numberOf Refusal.Jump; code = words })
+  chosen b = cond b (record { number = 0; code = withOffset words index offset }) (record { number = refusalNumber Refusal.Jump; code = words })
 
   can-may : canPatch words count index ≡ true → MayPatch words count index offset
   unfolding canPatch

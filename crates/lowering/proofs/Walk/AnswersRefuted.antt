@@ -7,7 +7,7 @@ use lib.Ieee.{nanBits}
 use lib.ListN.{getD, set, replicate}
 use Rattle.diagnostics.specs.declared.Refusal.{Refusal}
 use Rattle.diagnostics.specs.declared.Error.{Error}
-use Rattle.diagnostics.specs.Refusal.{numberOf}
+use Rattle.diagnostics.specs.Refusal.{refusalNumber}
 use Rattle.words.specs.Records.{capacity}
 use Rattle.words.specs.Words.{wordOf, words, tail, bytesOf}
 use Rattle.syntax.specs.Ast.{nodeWord, nodeAt}
@@ -36,7 +36,7 @@ page-asked = refl
 -- the number and the place of a verdict
 verdictNumber : Verdict → ℕ
 verdictNumber passed = 0
-verdictNumber (refused r place) = numberOf r
+verdictNumber (refused r place) = refusalNumber r
 
 verdictPlace : Verdict → ℕ
 verdictPlace passed = 0
@@ -76,7 +76,7 @@ untouched-count-refuted u = omega (arith, u .no-instructions)
 -- ---- 9 to 18: `if x 1`, no else, which is 11 at node 2, its span 11 to 12
 
 -- what it stops with shows its number, place and span
-stops-number : {e : Error} → StopsWithOf e → numberOf (e .refusal) ≡ 11
+stops-number : {e : Error} → StopsWithOf e → refusalNumber (e .refusal) ≡ 11
 unfolding answered
 stops-number s = ap (λ x. x .result .number) (sym (ap (answered 1) (s .is)) ∙ no-else-right)
 

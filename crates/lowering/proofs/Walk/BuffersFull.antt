@@ -6,7 +6,7 @@ use mathlib.Core.Logic.{inl, inr}
 use mathlib.Core.List.{List}
 use lib.ListN.{length}
 use Rattle.diagnostics.specs.declared.Error.{Error}
-use Rattle.diagnostics.specs.Refusal.{numberOf}
+use Rattle.diagnostics.specs.Refusal.{refusalNumber}
 use Rattle.words.specs.Records.{capacity, maxCount}
 use Rattle.lowering.specs.Tree.{Tree, treeOf}
 use Rattle.lowering.specs.Walk.{Made, left}
@@ -23,7 +23,7 @@ use Rattle.lowering.proofs.Walk.MarksMade.{marks-few}
 
 -- what 14 and 16 say of a buffer
 module _ {t : Tree} {root : ℕ} where
-  own-constants : {e : Error} {m : Made} → Own t root e m → numberOf (e .refusal) ≡ 14 → constantsOf m ≤ 4096 → capacity 3 (m .constants) ≤ constantsOf m
+  own-constants : {e : Error} {m : Made} → Own t root e m → refusalNumber (e .refusal) ≡ 14 → constantsOf m ≤ 4096 → capacity 3 (m .constants) ≤ constantsOf m
   own-constants (constants-own o u (inl h)) z f = h
   own-constants (constants-own o u (inr h)) z f = absurd (omega arith)
   own-constants (undeclared r e f) z g = absurd (omega arith)
@@ -36,7 +36,7 @@ module _ {t : Tree} {root : ℕ} where
   own-constants (no-destination k h f) z g = absurd (omega arith)
   own-constants (sum k h f l) z g = absurd (omega arith)
 
-  own-marks : {e : Error} {m : Made} → Own t root e m → numberOf (e .refusal) ≡ 16 → marksOf m < maxCount → capacity 1 (m .marks) ≤ marksOf m
+  own-marks : {e : Error} {m : Made} → Own t root e m → refusalNumber (e .refusal) ≡ 16 → marksOf m < maxCount → capacity 1 (m .marks) ≤ marksOf m
   own-marks (marks-own (inl h)) z f = h
   own-marks (marks-own (inr h)) z f = absurd (omega arith)
   own-marks (undeclared r e f) z g = absurd (omega arith)

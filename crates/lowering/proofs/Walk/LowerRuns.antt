@@ -9,7 +9,7 @@ use lib.ListN.{length}
 use borrow.Author.Tests.{leb-true}
 use Rattle.diagnostics.specs.declared.Refusal.{Refusal}
 use Rattle.diagnostics.specs.declared.Error.{Error}
-use Rattle.diagnostics.specs.Refusal.{numberOf}
+use Rattle.diagnostics.specs.Refusal.{refusalNumber}
 use Rattle.words.specs.Words.{words}
 use Rattle.environment.specs.Environment.{parameters}
 use Rattle.environment.specs.Laws.{Sound}
@@ -49,7 +49,7 @@ module _ {t : Tree} {root : ℕ} where
   own-of (counts a) = own-of a
 
   -- a refusal of the walk is one of 9 to 18
-  pub own-number : {e : Error} {m : Made} → Own t root e m → (9 ≤ numberOf (e .refusal)) × (numberOf (e .refusal) ≤ 18)
+  pub own-number : {e : Error} {m : Made} → Own t root e m → (9 ≤ refusalNumber (e .refusal)) × (refusalNumber (e .refusal) ≤ 18)
   own-number (undeclared r e f) = (omega arith, omega arith)
   own-number (registers h) = (omega arith, omega arith)
   own-number (no-else r e) = (omega arith, omega arith)
@@ -62,7 +62,7 @@ module _ {t : Tree} {root : ℕ} where
   own-number (sum k h f l) = (omega arith, omega arith)
 
 -- a question before the walk is one of 1 to 8
-node-number : {t : Tree} {i : ℕ} {r : Refusal} → NodeNo t i r → (1 ≤ numberOf r) × (numberOf r ≤ 8)
+node-number : {t : Tree} {i : ℕ} {r : Refusal} → NodeNo t i r → (1 ≤ refusalNumber r) × (refusalNumber r ≤ 8)
 node-number (no-kind a) = (omega arith, omega arith)
 node-number (no-unused a b) = (omega arith, omega arith)
 node-number (no-number a b c) = (omega arith, omega arith)
@@ -70,7 +70,7 @@ node-number (no-list a b c d) = (omega arith, omega arith)
 node-number (no-order a b c d e) = (omega arith, omega arith)
 
 pub first-number : {nodes list names : List ℕ} {mode root : ℕ} {r : Refusal} {place : ℕ} → FirstNo nodes list names mode root r place →
-    (1 ≤ numberOf r) × (numberOf r ≤ 8)
+    (1 ≤ refusalNumber r) × (refusalNumber r ≤ 8)
 first-number (no-size a) = (omega arith, omega arith)
 first-number (no-root a b) = (omega arith, omega arith)
 first-number (no-node a b i l c h) = node-number h
@@ -88,7 +88,7 @@ module _ (nodes : List ℕ) (root mode : ℕ) (list names code constants marks :
   -- What comes back, and how it came to that.
   pub data Came : Lowered → Type 1 where
     -- a question before the walk is the first one answered no: nothing is done
-    before : {r : Refusal} {place : ℕ} → FirstNo nodes list names mode root r place → Came (leaves (result (numberOf r) place 0 0 0 0 0 0) (start nodes root mode list names code constants marks))
+    before : {r : Refusal} {place : ℕ} → FirstNo nodes list names mode root r place → Came (leaves (result (refusalNumber r) place 0 0 0 0 0 0) (start nodes root mode list names code constants marks))
     -- every question is answered yes, and the walk ends: no question of it was answered no
     accepted : {place : ℕ} {m : Made} → AllYes nodes list names mode root → lowerRoot freeTemp tree mode root (start nodes root mode list names code constants marks) ≡ ends place m →
         Runs tree root ℕ (lowerRoot freeTemp tree mode root) (start nodes root mode list names code constants marks) (ends place m) →
@@ -96,7 +96,7 @@ module _ (nodes : List ℕ) (root mode : ℕ) (list names code constants marks :
     -- every question is answered yes, and the walk stops: the refusal's own condition holds of what was made there
     stopped : {e : Error} {m : Made} → AllYes nodes list names mode root → lowerRoot freeTemp tree mode root (start nodes root mode list names code constants marks) ≡ stops e m →
         Runs tree root ℕ (lowerRoot freeTemp tree mode root) (start nodes root mode list names code constants marks) (stops e m) → Own tree root e m →
-        Came (leaves (result (numberOf (e .refusal)) (e .place) (e .start) (e .end) (instructionsOf m) (constantsOf m) 0 0) m)
+        Came (leaves (result (refusalNumber (e .refusal)) (e .place) (e .start) (e .end) (instructionsOf m) (constantsOf m) 0 0) m)
 
   pub few-names : AllYes nodes list names mode root → length (words names) ≤ 256
   unfolding question8
