@@ -3,7 +3,7 @@ ghost use mathlib.Core.Path.{_≡_};
 ghost use mathlib.Core.List.{_++_};
 ghost use lib.Seq.{sets};
 ghost use Rattle.words.specs.Words.{words, tail, bytesOf};
-ghost use Rattle.lowering.specs.Result.{numbersOf, lower, patch};
+ghost use Rattle.lowering.specs.Result.{numbersOf, lower, patchJump};
 use codegen::lower;
 use codegen::numbers_of;
 use lower_ast::patch_jump;
@@ -36,8 +36,8 @@ pub extern "C" fn sewurogi_lower(
 // `patch_jump`: 0, or 19.
 #[no_mangle]
 pub extern "C" fn sewurogi_patch_jump(code: &mut [u8], count: u32, index: u32, offset: u32) -> u32
-    ensures number { λ r. ⌜ r ≡ patch (words (now (code .entry))) count index offset .number ⌝ }
-    ensures bytes { λ r. ⌜ now (code .exit) ≡ bytesOf (patch (words (now (code .entry))) count index offset .code) ++ tail (now (code .entry)) ⌝ }
+    ensures number { λ r. ⌜ r ≡ patchJump (words (now (code .entry))) count index offset .number ⌝ }
+    ensures bytes { λ r. ⌜ now (code .exit) ≡ bytesOf (patchJump (words (now (code .entry))) count index offset .code) ++ tail (now (code .entry)) ⌝ }
 {
     patch_jump(code, count, index, offset)
 }

@@ -8,7 +8,7 @@ use lib.ListN.{getD}
 use denote.Ref.{RefT, now}
 use Rattle.words.specs.Words.{words, tail, bytesOf}
 use Rattle.words.proofs.Words.{bytes-words}
-use Rattle.lowering.specs.Result.{patch}
+use Rattle.lowering.specs.Result.{patchJump}
 use Rattle.lowering.specs.Answers.{MayPatch, MayNot}
 use Rattle.lowering.proofs.Walk.Answers.{only-patching, patched-exactly, refused-exactly, patch-writes-nothing, patch-writes-one}
 use Rattle.lower_ast.specs.Laws.{OneOffset, Lifetimes}
@@ -24,10 +24,10 @@ module _ (lifetimes : Lifetimes) (codeAt codeThen : RefT (List ℕ)) (count inde
   abbrev pub exit : List ℕ
   exit = now codeThen
 
-  contract-number : r ≡ patch (words entry) count index offset .number
+  contract-number : r ≡ patchJump (words entry) count index offset .number
   contract-number = contract .0
 
-  contract-bytes : exit ≡ bytesOf (patch (words entry) count index offset .code) ++ tail entry
+  contract-bytes : exit ≡ bytesOf (patchJump (words entry) count index offset .code) ++ tail entry
   contract-bytes = contract .1
 
   -- only 0 and 19, each under its own condition
@@ -47,7 +47,7 @@ module _ (lifetimes : Lifetimes) (codeAt codeThen : RefT (List ℕ)) (count inde
   -- with 0 one word is other than at entry
   pub writes-one : r ≡ 0 → OneOffset entry count index offset exit
   writes-one h = record {
-    left = patch (words entry) count index offset .code;
+    left = patchJump (words entry) count index offset .code;
     bytes = contract-bytes;
     one = patch-writes-one (words entry) count index offset (sym contract-number ∙ h);
   }

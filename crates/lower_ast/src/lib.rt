@@ -7,7 +7,7 @@ ghost use Rattle.words.specs.Records.{buffer};
 ghost use Rattle.lowering.specs.declared.State.{State};
 ghost use Rattle.lowering.specs.Walk.{made};
 ghost use Rattle.lowering.specs.Steps.{withOffset, patchArgument, patchMarks};
-ghost use Rattle.lowering.specs.Result.{canPatch, patch};
+ghost use Rattle.lowering.specs.Result.{canPatch, patchJump};
 ghost use Rattle.lower_ast.specs.Arguments.{markArgument, seenDone};
 use diagnostics::Place;
 use diagnostics::Refusal;
@@ -56,8 +56,8 @@ fn can_patch(code: &[u8], count: u32, index: u32) -> bool
 
 // Patching: 0, or 19 and nothing changes. Of the bytes only those of the offset change.
 pub fn patch_jump(code: &mut [u8], count: u32, index: u32, offset: u32) -> u32
-    ensures number { λ r. ⌜ r ≡ patch (words (now (code .entry))) count index offset .number ⌝ }
-    ensures bytes { λ r. ⌜ now (code .exit) ≡ bytesOf (patch (words (now (code .entry))) count index offset .code) ++ tail (now (code .entry)) ⌝ }
+    ensures number { λ r. ⌜ r ≡ patchJump (words (now (code .entry))) count index offset .number ⌝ }
+    ensures bytes { λ r. ⌜ now (code .exit) ≡ bytesOf (patchJump (words (now (code .entry))) count index offset .code) ++ tail (now (code .entry)) ⌝ }
 {
     if can_patch(code, count, index) {
         put_offset(code, index, offset);

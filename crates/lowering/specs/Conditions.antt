@@ -8,7 +8,7 @@ use mathlib.Core.Bool.{Bool, true, false, cond, not, Bool·beq}
 use mathlib.Core.Option.{some}
 use lib.ListN.{length}
 use Rattle.lowering.specs.Tree.{Tree, treeOf, node}
-use Rattle.lowering.specs.Result.{Lowered, Patched, lower, patch}
+use Rattle.lowering.specs.Result.{Lowered, JumpPatched, lower, patchJump}
 use Rattle.lowering.specs.Meaning.{Operators, Hypotheses, Worth, worth, fails, undefined, tests, worthAt, OrderPremise, ConditionPremise, AtRoot, Reaches, Plain, sizeAt}
 use Rattle.lowering.specs.Machine.{target, fetch, constantAt, failed, Registers, Now, at, ended, after}
 
@@ -40,8 +40,8 @@ module _ (sense : Bool) (t : Tree) (root : ℕ) (x : Lowered) where
   behind = x .result .instructions
 
   -- the code with its jump patched
-  abbrev pub patchedTo : Goal (x .result .place) → Patched
-  patchedTo g = patch (x .code) behind (x .result .place) (g .offset)
+  abbrev pub patchedTo : Goal (x .result .place) → JumpPatched
+  patchedTo g = patchJump (x .code) behind (x .result .place) (g .offset)
 
   -- what the tree's value tests as: a boolean, the tree's failure, or the test's
   abbrev pub testOf : (s : Entry sense t root) → Worth (s .operators .Failure) Bool

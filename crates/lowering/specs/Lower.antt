@@ -21,7 +21,7 @@ use Rattle.runtime.specs.Value.{numberOf}
 use Rattle.lowering.specs.declared.Dest.{Dest}
 use Rattle.lowering.specs.Tree.{Tree, node, spanStart, spanEnd}
 use Rattle.lowering.specs.Walk.{stops, Walk, bind, _>>=_, _>>_, ret, error}
-use Rattle.lowering.specs.Steps.{destination, emit, store, loadConstant, patchJump, mark}
+use Rattle.lowering.specs.Steps.{destination, emit, store, loadConstant, patchToNext, mark}
 use Rattle.lowering.specs.Operators.{binaryRR, binaryRK, binaryKR, unary, comparison, jumpRR, jumpRK, jumpKR, jumpIf}
 
 -- where an operand is: in a register, or a constant that is not pooled yet
@@ -259,14 +259,14 @@ module _ (giveBack : Register → Walk Unit) (t : Tree) where
       src ← lowerMaterializing (E left) (Dest.To d)
       jump ← emit (Instruction.JumpIfFalse (regOf src) 0)
       lowerMaterializing (E right) (Dest.To d)
-      patchJump jump
+      patchToNext jump
       ret (Operand.Register d)
     lowerNode J i (Node.LogicalOr left right) dest = do
       d ← destination dest
       src ← lowerMaterializing (E left) (Dest.To d)
       jump ← emit (Instruction.JumpIfTrue (regOf src) 0)
       lowerMaterializing (E right) (Dest.To d)
-      patchJump jump
+      patchToNext jump
       ret (Operand.Register d)
     -- "If: condition, destination, then, jump, else. Registers of a condition stay held"
     lowerNode J i (Node.If condition thenBranch elseBranch) dest = do
@@ -274,9 +274,9 @@ module _ (giveBack : Register → Walk Unit) (t : Tree) where
       d ← destination dest
       lowerMaterializing (E thenBranch) (Dest.To d)
       end ← emit (Instruction.Jump 0)
-      patchJump jump
+      patchToNext jump
       lowerElse t E i elseBranch d
-      patchJump end
+      patchToNext end
       ret (Operand.Register d)
     lowerNode J i (Node.Block tail) dest = do
       d ← destination dest

@@ -105,12 +105,12 @@ canPatch code count index =
     ltb index count && leb count (capacity instructionWidth code)
     && leb 41 (getD code (instructionWidth * index) 0) && leb (getD code (instructionWidth * index) 0) 53
 
-pub record Patched : Type 0 where
+pub record JumpPatched : Type 0 where
   pub number : ℕ
   pub code : List ℕ
 
-unfoldable pub patch : List ℕ → ℕ → ℕ → ℕ → Patched
-patch code count index offset =
+unfoldable pub patchJump : List ℕ → ℕ → ℕ → ℕ → JumpPatched
+patchJump code count index offset =
     cond (canPatch code count index)
     (record { number = 0; code = withOffset code index offset })
     (record { number = refusalNumber Refusal.Jump; code = code })

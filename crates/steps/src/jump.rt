@@ -6,7 +6,7 @@ ghost use Rattle.words.specs.Words.{words, tail};
 ghost use Rattle.lowering.specs.declared.Dest.{Dest};
 ghost use Rattle.lowering.specs.Tree.{Tree};
 ghost use Rattle.lowering.specs.Walk.{Walk, made, ends};
-ghost use Rattle.lowering.specs.Steps.{patchJump};
+ghost use Rattle.lowering.specs.Steps.{patchToNext};
 ghost use Rattle.lowering.specs.Lower.{register, constant, fusedSources};
 ghost use Rattle.steps.specs.declared.answer.Answer.{Answer};
 ghost use Rattle.steps.specs.Answers.{seen, answered};
@@ -102,7 +102,7 @@ pub fn lower_fused_kr(
 
 // The jump at `place` goes to the next instruction.
 pub fn patch_to_next(code: &mut [u8], state: State, place: u32)
-    ensures step { λ _. ⌜ ((p m : List ℕ) → patchJump place (made (words (now (code .entry))) p m state)
+    ensures step { λ _. ⌜ ((p m : List ℕ) → patchToNext place (made (words (now (code .entry))) p m state)
         ≡ ends tt (made (words (now (code .exit))) p m state)) ⌝ }
     ensures tail { λ _. ⌜ tail (now (code .exit)) ≡ tail (now (code .entry)) ⌝ }
 {

@@ -2,7 +2,7 @@
 use mathlib.Core.Path.{refl, sym, _∙_}
 use native.Mathlib.Omega.{arith}
 use borrow.Author.Needs.{needs}
-use Rattle.lowering.specs.Result.{patch}
+use Rattle.lowering.specs.Result.{patchJump}
 use Rattle.lower_ast.proofs.Patches.{bytes-are}
 use Rattle.lower_ast.proofs.patch_jump.Statement.{statement}
 use Rattle.lower_ast.proofs.patch_jump.Tie as tie
@@ -20,7 +20,7 @@ same-length : tie.Need-same-length
 same-length c = search needs
 
 returns : tie.Need-returns
-unfolding patch
+unfolding patchJump
 returns c =
     let jump = sym (c .before .before .before .before .before .can-patch .ensures) ∙ c .before .before .before .before .if1 .taken in
     (rw jump, rw jump (bytes-are _ _ _ (c .before .before .put-offset .ensures .0) (c .before .before .put-offset .ensures .1) (λ i. omega (arith, c .slice-known2 .given i))))
@@ -29,7 +29,7 @@ same-length-2 : tie.Need-same-length-2
 same-length-2 c = search needs
 
 returns-2 : tie.Need-returns-2
-unfolding patch
+unfolding patchJump
 returns-2 c =
     let code = c .before .before .before .before .before .args .code .now in
     let refused = sym (c .before .before .can-patch .ensures) ∙ c .before .if1 .left in

@@ -19,7 +19,7 @@ use Rattle.lowering.specs.Checked.{AllYes}
 use Rattle.lowering.specs.Walk.{Made, Outcome, ends, stops}
 use Rattle.lowering.specs.Steps.{freeTemp, withOffset}
 use Rattle.lowering.specs.Questions.{Verdict, passed, refused, questions}
-use Rattle.lowering.specs.Result.{Lowered, result, leaves, begin, lowerRoot, answered, lowerChecked, lower, patch}
+use Rattle.lowering.specs.Result.{Lowered, result, leaves, begin, lowerRoot, answered, lowerChecked, lower, patchJump}
 use Rattle.lowering.specs.Meaning.{val, fail, Operators, Worth, worth, fails, undefined, given, worthAt}
 use Rattle.lowering.specs.Machine.{recordIn, fetch, constantAt, constantOf, target, Ending, returned, failed, lost, Registers, Now, ended, stepAt, step, after}
 use Rattle.lowering.specs.Conditions.{modeOf, Entry, Goal, behind, testOf, runTo, LeftBy, UpTo, Exactly, ConditionOf, ConditionLaw}
@@ -188,8 +188,8 @@ module _ (sense : Bool) (t : Tree) (root : ℕ) (m m' : Made) (j : ℕ) (empty :
       }
 
   module _ (g : Goal j) where
-    patched : patch (m' .code) (count m') j (g .offset) ≡ record { number = 0; code = withOffset (m' .code) j (g .offset) }
-    unfolding patch
+    patched : patchJump (m' .code) (count m') j (g .offset) ≡ record { number = 0; code = withOffset (m' .code) j (g .offset) }
+    unfolding patchJump
     patched = rw (may-can (m' .code) (count m') j 0 may)
 
     module _ (s : Entry sense t root) where
@@ -200,7 +200,7 @@ module _ (sense : Bool) (t : Tree) (root : ℕ) (m m' : Made) (j : ℕ) (empty :
       consts = constantAt M (m' .constants) (m' .state .constants)
 
       abbrev code : ℕ → Option Instruction
-      code = fetch (patch (m' .code) (count m') j (g .offset) .code) (count m')
+      code = fetch (patchJump (m' .code) (count m') j (g .offset) .code) (count m')
 
       world : (ℕ → ℕ → Bool) → World M
       world stop = record { consts = consts; code = code; base = 0; limit = count m'; stop = stop }
@@ -345,7 +345,7 @@ module _ (sense : Bool) (t : Tree) (root : ℕ) (m m' : Made) (j : ℕ) (empty :
 
         past : (q : ℕ) (Q : Registers M) → count m' ≤ q → go-on (Now.at q Q) ≡ ended lost
         unfolding step stepAt
-        past q Q h = ap (λ i. stepAt M consts code i q Q) (outside (patch (m' .code) (count m') j (g .offset) .code) (count m') q h)
+        past q Q h = ap (λ i. stepAt M consts code i q Q) (outside (patchJump (m' .code) (count m') j (g .offset) .code) (count m') q h)
 
         to-past : (b : Bool) → count m' ≤ to b
         to-past b = past-both (Bool·beq b sense) (g .place) (count m') ahead

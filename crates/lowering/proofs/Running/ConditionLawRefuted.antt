@@ -11,7 +11,7 @@ use Rattle.syntax.specs.Ops.{binaryOp}
 use Rattle.runtime.specs.Instruction.{decode, offsetWord}
 use Rattle.lowering.specs.Tree.{Tree}
 use Rattle.lowering.specs.Steps.{withOffset}
-use Rattle.lowering.specs.Result.{Lowered, result, canPatch, patch}
+use Rattle.lowering.specs.Result.{Lowered, result, canPatch, patchJump}
 use Rattle.lowering.specs.Meaning.{met, operate, lastNamed, nodeWorth, worthBelow, worthAt, conditionAsks, nodeAsks, conditionAsksBelow, asksBelow, OrderPremise, ConditionPremise}
 use Rattle.lowering.specs.Machine.{recordIn, fetch, target, action, Registers, Now, act, stepAt, step, after}
 use Rattle.lowering.specs.Conditions.{Entry, Goal, testOf, runTo, LeftBy, ConditionOf}
@@ -51,7 +51,7 @@ named false = record {
 
 -- mode 2 of x with JumpIfFalse, as mode 1 has it
 pub true-as-false : ConditionOf true name 0 (alone (42 ∷ 0 ∷ 0 ∷ 0 ∷ [])) → ⊥
-unfolding ahead named worthAt worthBelow nodeWorth nodeAt nodeWord lastNamed patch canPatch withOffset offsetWord capacity recordAt recordIn fetch decode target action act stepAt step after
+unfolding ahead named worthAt worthBelow nodeWorth nodeAt nodeWord lastNamed patchJump canPatch withOffset offsetWord capacity recordAt recordIn fetch decode target action act stepAt step after
 true-as-false c = let r = c .runs ahead (named true) in go (r .0) (r .1 .steps) (r .1 .left)
   where
     go : (n : ℕ) → n ≤ 1 → LeftBy true name 0 (alone (42 ∷ 0 ∷ 0 ∷ 0 ∷ [])) ahead (named true) (testOf true name 0 (alone (42 ∷ 0 ∷ 0 ∷ 0 ∷ [])) (named true))
@@ -62,7 +62,7 @@ true-as-false c = let r = c .runs ahead (named true) in go (r .0) (r .1 .steps) 
 
 -- mode 1 of x with JumpIfTrue
 pub false-as-true : ConditionOf false name 0 (alone (43 ∷ 0 ∷ 0 ∷ 0 ∷ [])) → ⊥
-unfolding ahead named worthAt worthBelow nodeWorth nodeAt nodeWord lastNamed patch canPatch withOffset offsetWord capacity recordAt recordIn fetch decode target action act stepAt step after
+unfolding ahead named worthAt worthBelow nodeWorth nodeAt nodeWord lastNamed patchJump canPatch withOffset offsetWord capacity recordAt recordIn fetch decode target action act stepAt step after
 false-as-true c = let r = c .runs ahead (named false) in go (r .0) (r .1 .steps) (r .1 .left)
   where
     go : (n : ℕ) → n ≤ 1 → LeftBy false name 0 (alone (43 ∷ 0 ∷ 0 ∷ 0 ∷ [])) ahead (named false) (testOf false name 0 (alone (43 ∷ 0 ∷ 0 ∷ 0 ∷ [])) (named false))
@@ -85,7 +85,7 @@ ordered = record {
 
 -- mode 2 of x < y with JumpIfLessEqual, the values the same
 pub less-as-less-equal : ConditionOf true order 2 (alone (47 ∷ 0 ∷ 1 ∷ 0 ∷ [])) → ⊥
-unfolding ahead ordered worthAt worthBelow nodeWorth operate nodeAt nodeWord binaryOp lastNamed patch canPatch withOffset offsetWord capacity recordAt recordIn fetch decode target action act stepAt step after
+unfolding ahead ordered worthAt worthBelow nodeWorth operate nodeAt nodeWord binaryOp lastNamed patchJump canPatch withOffset offsetWord capacity recordAt recordIn fetch decode target action act stepAt step after
 less-as-less-equal c = let r = c .runs ahead ordered in go (r .0) (r .1 .steps) (r .1 .left)
   where
     go : (n : ℕ) → n ≤ 1 → LeftBy true order 2 (alone (47 ∷ 0 ∷ 1 ∷ 0 ∷ [])) ahead ordered (testOf true order 2 (alone (47 ∷ 0 ∷ 1 ∷ 0 ∷ [])) ordered)

@@ -25,7 +25,7 @@ use Rattle.runtime.specs.Value.{numberOf, constantWords}
 use Rattle.lowering.specs.Lower.{source, sameRegister, nameOf, materialized, lowerMaterializing, moved, named, binarySources, lowerArguments, storeNamed, storeKeyed, lowerEntry, lowerEntries, lowerElse, lowerTail, lowerNode, tested, fusedSources, fused, jumpNode, lowerExpression, lowerJumpIfFalse, lowerJumpIfTrue, expressionBelow, jumpBelow}
 use Rattle.lowering.specs.Operators.{binaryRR, binaryRK, binaryKR, unary, comparison, jumpRR, jumpRK, jumpKR, jumpIf}
 use Rattle.lowering.specs.Questions.{whole, question1, question2, question3, question4, question5, question6, allBelow, question7, question8, askNode, askNodes, questions}
-use Rattle.lowering.specs.Steps.{placed, registered, allocateTemp, freeTemp, destination, emit, store, loadConstant, withOffset, patchJump, mark, patchArgument, patchMarks, patchArguments}
+use Rattle.lowering.specs.Steps.{placed, registered, allocateTemp, freeTemp, destination, emit, store, loadConstant, withOffset, patchToNext, mark, patchArgument, patchMarks, patchArguments}
 use Rattle.lowering.specs.Tree.{node, present, entryNodes, children}
 use Rattle.lowering.specs.Walk.{bind}
 use Rattle.lowering.specs.Result.{result, begin, lowerRoot, answered, lowerChecked, lower}
@@ -122,16 +122,16 @@ nan-unordered x h =
 
 -- it is accepted
 page-accepted : page .result .number ≡ 0
-unfolding page ofBits toBits nanBits capacity recordAt putRecord sameWords isAt positionFrom position append wordOf words tail bytesOf bit clear flip found allocated freed parameters lookup free takeOut putBack smallestFrom smallestFree allFree without taken givenBack nodeWord nodeAt binaryOp unaryOp emitInstruction storeConstant wordsOf hasDestination offsetWord regOf numberOf constantWords source sameRegister nameOf materialized lowerMaterializing moved named binarySources lowerArguments storeNamed storeKeyed lowerEntry lowerEntries lowerElse lowerTail lowerNode tested fusedSources fused jumpNode lowerExpression lowerJumpIfFalse lowerJumpIfTrue expressionBelow jumpBelow binaryRR binaryRK binaryKR unary comparison jumpRR jumpRK jumpKR jumpIf whole question1 question2 question3 question4 question5 question6 allBelow question7 question8 askNode askNodes questions begin lowerRoot answered lowerChecked lower placed registered allocateTemp freeTemp destination emit store loadConstant withOffset patchJump mark patchArgument patchMarks patchArguments present entryNodes children bind
+unfolding page ofBits toBits nanBits capacity recordAt putRecord sameWords isAt positionFrom position append wordOf words tail bytesOf bit clear flip found allocated freed parameters lookup free takeOut putBack smallestFrom smallestFree allFree without taken givenBack nodeWord nodeAt binaryOp unaryOp emitInstruction storeConstant wordsOf hasDestination offsetWord regOf numberOf constantWords source sameRegister nameOf materialized lowerMaterializing moved named binarySources lowerArguments storeNamed storeKeyed lowerEntry lowerEntries lowerElse lowerTail lowerNode tested fusedSources fused jumpNode lowerExpression lowerJumpIfFalse lowerJumpIfTrue expressionBelow jumpBelow binaryRR binaryRK binaryKR unary comparison jumpRR jumpRK jumpKR jumpIf whole question1 question2 question3 question4 question5 question6 allBelow question7 question8 askNode askNodes questions begin lowerRoot answered lowerChecked lower placed registered allocateTemp freeTemp destination emit store loadConstant withOffset patchToNext mark patchArgument patchMarks patchArguments present entryNodes children bind
 page-accepted = refl
 
 -- flow = 2 returns 1 after four steps, flow = 5 returns 2 after three
 pub page-small : (rest : Registers ieee) → pageRun two rest 4 ≡ ended (returned (ieee .number one))
-unfolding page compared numbers alike truthful lt le eq recordIn fetch constantAt constantOf target action act stepAt step after decode ofBits toBits nanBits capacity recordAt putRecord sameWords isAt positionFrom position append wordOf words tail bytesOf bit clear flip found allocated freed parameters lookup free takeOut putBack smallestFrom smallestFree allFree without taken givenBack nodeWord nodeAt binaryOp unaryOp emitInstruction storeConstant wordsOf hasDestination offsetWord regOf numberOf constantWords source sameRegister nameOf materialized lowerMaterializing moved named binarySources lowerArguments storeNamed storeKeyed lowerEntry lowerEntries lowerElse lowerTail lowerNode tested fusedSources fused jumpNode lowerExpression lowerJumpIfFalse lowerJumpIfTrue expressionBelow jumpBelow binaryRR binaryRK binaryKR unary comparison jumpRR jumpRK jumpKR jumpIf whole question1 question2 question3 question4 question5 question6 allBelow question7 question8 askNode askNodes questions begin lowerRoot answered lowerChecked lower placed registered allocateTemp freeTemp destination emit store loadConstant withOffset patchJump mark patchArgument patchMarks patchArguments present entryNodes children bind
+unfolding page compared numbers alike truthful lt le eq recordIn fetch constantAt constantOf target action act stepAt step after decode ofBits toBits nanBits capacity recordAt putRecord sameWords isAt positionFrom position append wordOf words tail bytesOf bit clear flip found allocated freed parameters lookup free takeOut putBack smallestFrom smallestFree allFree without taken givenBack nodeWord nodeAt binaryOp unaryOp emitInstruction storeConstant wordsOf hasDestination offsetWord regOf numberOf constantWords source sameRegister nameOf materialized lowerMaterializing moved named binarySources lowerArguments storeNamed storeKeyed lowerEntry lowerEntries lowerElse lowerTail lowerNode tested fusedSources fused jumpNode lowerExpression lowerJumpIfFalse lowerJumpIfTrue expressionBelow jumpBelow binaryRR binaryRK binaryKR unary comparison jumpRR jumpRK jumpKR jumpIf whole question1 question2 question3 question4 question5 question6 allBelow question7 question8 askNode askNodes questions begin lowerRoot answered lowerChecked lower placed registered allocateTemp freeTemp destination emit store loadConstant withOffset patchToNext mark patchArgument patchMarks patchArguments present entryNodes children bind
 page-small rest = refl
 
 pub page-large : (rest : Registers ieee) → pageRun five rest 3 ≡ ended (returned (ieee .number two))
-unfolding page compared numbers alike truthful lt le eq recordIn fetch constantAt constantOf target action act stepAt step after decode ofBits toBits nanBits capacity recordAt putRecord sameWords isAt positionFrom position append wordOf words tail bytesOf bit clear flip found allocated freed parameters lookup free takeOut putBack smallestFrom smallestFree allFree without taken givenBack nodeWord nodeAt binaryOp unaryOp emitInstruction storeConstant wordsOf hasDestination offsetWord regOf numberOf constantWords source sameRegister nameOf materialized lowerMaterializing moved named binarySources lowerArguments storeNamed storeKeyed lowerEntry lowerEntries lowerElse lowerTail lowerNode tested fusedSources fused jumpNode lowerExpression lowerJumpIfFalse lowerJumpIfTrue expressionBelow jumpBelow binaryRR binaryRK binaryKR unary comparison jumpRR jumpRK jumpKR jumpIf whole question1 question2 question3 question4 question5 question6 allBelow question7 question8 askNode askNodes questions begin lowerRoot answered lowerChecked lower placed registered allocateTemp freeTemp destination emit store loadConstant withOffset patchJump mark patchArgument patchMarks patchArguments present entryNodes children bind
+unfolding page compared numbers alike truthful lt le eq recordIn fetch constantAt constantOf target action act stepAt step after decode ofBits toBits nanBits capacity recordAt putRecord sameWords isAt positionFrom position append wordOf words tail bytesOf bit clear flip found allocated freed parameters lookup free takeOut putBack smallestFrom smallestFree allFree without taken givenBack nodeWord nodeAt binaryOp unaryOp emitInstruction storeConstant wordsOf hasDestination offsetWord regOf numberOf constantWords source sameRegister nameOf materialized lowerMaterializing moved named binarySources lowerArguments storeNamed storeKeyed lowerEntry lowerEntries lowerElse lowerTail lowerNode tested fusedSources fused jumpNode lowerExpression lowerJumpIfFalse lowerJumpIfTrue expressionBelow jumpBelow binaryRR binaryRK binaryKR unary comparison jumpRR jumpRK jumpKR jumpIf whole question1 question2 question3 question4 question5 question6 allBelow question7 question8 askNode askNodes questions begin lowerRoot answered lowerChecked lower placed registered allocateTemp freeTemp destination emit store loadConstant withOffset patchToNext mark patchArgument patchMarks patchArguments present entryNodes children bind
 page-large rest = refl
 
 -- the law's own way there, for every flow that is not NaN
@@ -141,14 +141,14 @@ chosen true = tt
 chosen false = tt
 
 pub page-order : (x : Float) → isNan x ≡ false → OrderPremise ieee pageTree (λ r. number x) 5
-unfolding OrderPremise asksBelow nodeAsks conditionAsksBelow conditionAsks OrderAt worthBelow nodeWorth lastNamed operate compared numbers truthful isNan ofBits toBits nanBits capacity recordAt putRecord sameWords isAt positionFrom position append wordOf words tail bytesOf bit clear flip found allocated freed parameters lookup free takeOut putBack smallestFrom smallestFree allFree without taken givenBack nodeWord nodeAt binaryOp unaryOp emitInstruction storeConstant wordsOf hasDestination offsetWord regOf numberOf constantWords source sameRegister nameOf materialized lowerMaterializing moved named binarySources lowerArguments storeNamed storeKeyed lowerEntry lowerEntries lowerElse lowerTail lowerNode tested fusedSources fused jumpNode lowerExpression lowerJumpIfFalse lowerJumpIfTrue expressionBelow jumpBelow binaryRR binaryRK binaryKR unary comparison jumpRR jumpRK jumpKR jumpIf whole question1 question2 question3 question4 question5 question6 allBelow question7 question8 askNode askNodes questions begin lowerRoot answered lowerChecked lower placed registered allocateTemp freeTemp destination emit store loadConstant withOffset patchJump mark patchArgument patchMarks patchArguments present entryNodes children bind
+unfolding OrderPremise asksBelow nodeAsks conditionAsksBelow conditionAsks OrderAt worthBelow nodeWorth lastNamed operate compared numbers truthful isNan ofBits toBits nanBits capacity recordAt putRecord sameWords isAt positionFrom position append wordOf words tail bytesOf bit clear flip found allocated freed parameters lookup free takeOut putBack smallestFrom smallestFree allFree without taken givenBack nodeWord nodeAt binaryOp unaryOp emitInstruction storeConstant wordsOf hasDestination offsetWord regOf numberOf constantWords source sameRegister nameOf materialized lowerMaterializing moved named binarySources lowerArguments storeNamed storeKeyed lowerEntry lowerEntries lowerElse lowerTail lowerNode tested fusedSources fused jumpNode lowerExpression lowerJumpIfFalse lowerJumpIfTrue expressionBelow jumpBelow binaryRR binaryRK binaryKR unary comparison jumpRR jumpRK jumpKR jumpIf whole question1 question2 question3 question4 question5 question6 allBelow question7 question8 askNode askNodes questions begin lowerRoot answered lowerChecked lower placed registered allocateTemp freeTemp destination emit store loadConstant withOffset patchToNext mark patchArgument patchMarks patchArguments present entryNodes children bind
 page-order x p =
     let o = numbers-ordered x three p refl in
     ((tt, met tt), met (met (o .0, o .1)), met (chosen (lt x three)))
 
 -- what the page is worth
 pub page-worth : (x : Float) → worthAt ieee pageTree (λ r. number x) 5 ≡ worth (number (cond (lt x three) one two))
-unfolding worthAt worthBelow nodeWorth lastNamed operate compared numbers truthful ofBits toBits nanBits capacity recordAt putRecord sameWords isAt positionFrom position append wordOf words tail bytesOf bit clear flip found allocated freed parameters lookup free takeOut putBack smallestFrom smallestFree allFree without taken givenBack nodeWord nodeAt binaryOp unaryOp emitInstruction storeConstant wordsOf hasDestination offsetWord regOf numberOf constantWords source sameRegister nameOf materialized lowerMaterializing moved named binarySources lowerArguments storeNamed storeKeyed lowerEntry lowerEntries lowerElse lowerTail lowerNode tested fusedSources fused jumpNode lowerExpression lowerJumpIfFalse lowerJumpIfTrue expressionBelow jumpBelow binaryRR binaryRK binaryKR unary comparison jumpRR jumpRK jumpKR jumpIf whole question1 question2 question3 question4 question5 question6 allBelow question7 question8 askNode askNodes questions begin lowerRoot answered lowerChecked lower placed registered allocateTemp freeTemp destination emit store loadConstant withOffset patchJump mark patchArgument patchMarks patchArguments present entryNodes children bind
+unfolding worthAt worthBelow nodeWorth lastNamed operate compared numbers truthful ofBits toBits nanBits capacity recordAt putRecord sameWords isAt positionFrom position append wordOf words tail bytesOf bit clear flip found allocated freed parameters lookup free takeOut putBack smallestFrom smallestFree allFree without taken givenBack nodeWord nodeAt binaryOp unaryOp emitInstruction storeConstant wordsOf hasDestination offsetWord regOf numberOf constantWords source sameRegister nameOf materialized lowerMaterializing moved named binarySources lowerArguments storeNamed storeKeyed lowerEntry lowerEntries lowerElse lowerTail lowerNode tested fusedSources fused jumpNode lowerExpression lowerJumpIfFalse lowerJumpIfTrue expressionBelow jumpBelow binaryRR binaryRK binaryKR unary comparison jumpRR jumpRK jumpKR jumpIf whole question1 question2 question3 question4 question5 question6 allBelow question7 question8 askNode askNodes questions begin lowerRoot answered lowerChecked lower placed registered allocateTemp freeTemp destination emit store loadConstant withOffset patchToNext mark patchArgument patchMarks patchArguments present entryNodes children bind
 page-worth x = go (lt x three)
   where
     go : (b : Bool) → _≡_ {A = Worth Mismatch Datum} (cond b (worth (number one)) (worth (number two))) (worth (number (cond b one two)))
@@ -165,7 +165,7 @@ named-under n first u = u .0
 named-under n (later m) u = named-under n m (u .1)
 
 page-closed : (i : ℕ) → i < 6 → Under 6 (children (pageTree .list) (node pageTree i))
-unfolding ofBits toBits nanBits capacity recordAt putRecord sameWords isAt positionFrom position append wordOf words tail bytesOf bit clear flip found allocated freed parameters lookup free takeOut putBack smallestFrom smallestFree allFree without taken givenBack nodeWord nodeAt binaryOp unaryOp emitInstruction storeConstant wordsOf hasDestination offsetWord regOf numberOf constantWords source sameRegister nameOf materialized lowerMaterializing moved named binarySources lowerArguments storeNamed storeKeyed lowerEntry lowerEntries lowerElse lowerTail lowerNode tested fusedSources fused jumpNode lowerExpression lowerJumpIfFalse lowerJumpIfTrue expressionBelow jumpBelow binaryRR binaryRK binaryKR unary comparison jumpRR jumpRK jumpKR jumpIf whole question1 question2 question3 question4 question5 question6 allBelow question7 question8 askNode askNodes questions begin lowerRoot answered lowerChecked lower placed registered allocateTemp freeTemp destination emit store loadConstant withOffset patchJump mark patchArgument patchMarks patchArguments present entryNodes children bind
+unfolding ofBits toBits nanBits capacity recordAt putRecord sameWords isAt positionFrom position append wordOf words tail bytesOf bit clear flip found allocated freed parameters lookup free takeOut putBack smallestFrom smallestFree allFree without taken givenBack nodeWord nodeAt binaryOp unaryOp emitInstruction storeConstant wordsOf hasDestination offsetWord regOf numberOf constantWords source sameRegister nameOf materialized lowerMaterializing moved named binarySources lowerArguments storeNamed storeKeyed lowerEntry lowerEntries lowerElse lowerTail lowerNode tested fusedSources fused jumpNode lowerExpression lowerJumpIfFalse lowerJumpIfTrue expressionBelow jumpBelow binaryRR binaryRK binaryKR unary comparison jumpRR jumpRK jumpKR jumpIf whole question1 question2 question3 question4 question5 question6 allBelow question7 question8 askNode askNodes questions begin lowerRoot answered lowerChecked lower placed registered allocateTemp freeTemp destination emit store loadConstant withOffset patchToNext mark patchArgument patchMarks patchArguments present entryNodes children bind
 page-closed zero h = tt
 page-closed (suc zero) h = tt
 page-closed (suc (suc zero)) h = (omega arith, (omega arith, tt))
@@ -179,7 +179,7 @@ page-reach here h = h
 page-reach (below {i = i} n r) h = page-reach r (named-under 6 n (page-closed i h))
 
 page-kinds : (i : ℕ) → i < 6 → Plain (node pageTree i)
-unfolding Plain ofBits toBits nanBits capacity recordAt putRecord sameWords isAt positionFrom position append wordOf words tail bytesOf bit clear flip found allocated freed parameters lookup free takeOut putBack smallestFrom smallestFree allFree without taken givenBack nodeWord nodeAt binaryOp unaryOp emitInstruction storeConstant wordsOf hasDestination offsetWord regOf numberOf constantWords source sameRegister nameOf materialized lowerMaterializing moved named binarySources lowerArguments storeNamed storeKeyed lowerEntry lowerEntries lowerElse lowerTail lowerNode tested fusedSources fused jumpNode lowerExpression lowerJumpIfFalse lowerJumpIfTrue expressionBelow jumpBelow binaryRR binaryRK binaryKR unary comparison jumpRR jumpRK jumpKR jumpIf whole question1 question2 question3 question4 question5 question6 allBelow question7 question8 askNode askNodes questions begin lowerRoot answered lowerChecked lower placed registered allocateTemp freeTemp destination emit store loadConstant withOffset patchJump mark patchArgument patchMarks patchArguments present entryNodes children bind
+unfolding Plain ofBits toBits nanBits capacity recordAt putRecord sameWords isAt positionFrom position append wordOf words tail bytesOf bit clear flip found allocated freed parameters lookup free takeOut putBack smallestFrom smallestFree allFree without taken givenBack nodeWord nodeAt binaryOp unaryOp emitInstruction storeConstant wordsOf hasDestination offsetWord regOf numberOf constantWords source sameRegister nameOf materialized lowerMaterializing moved named binarySources lowerArguments storeNamed storeKeyed lowerEntry lowerEntries lowerElse lowerTail lowerNode tested fusedSources fused jumpNode lowerExpression lowerJumpIfFalse lowerJumpIfTrue expressionBelow jumpBelow binaryRR binaryRK binaryKR unary comparison jumpRR jumpRK jumpKR jumpIf whole question1 question2 question3 question4 question5 question6 allBelow question7 question8 askNode askNodes questions begin lowerRoot answered lowerChecked lower placed registered allocateTemp freeTemp destination emit store loadConstant withOffset patchToNext mark patchArgument patchMarks patchArguments present entryNodes children bind
 page-kinds zero h = tt
 page-kinds (suc zero) h = tt
 page-kinds (suc (suc zero)) h = tt
@@ -213,12 +213,12 @@ page-returns x p rest =
 
 -- the test is false, so the rule is worth 2
 nan-worth : worthAt ieee ruleTree (λ r. number nan) 4 ≡ worth (number two)
-unfolding worthAt worthBelow nodeWorth lastNamed operate compared numbers truthful lt ofBits toBits nanBits capacity recordAt putRecord sameWords isAt positionFrom position append wordOf words tail bytesOf bit clear flip found allocated freed parameters lookup free takeOut putBack smallestFrom smallestFree allFree without taken givenBack nodeWord nodeAt binaryOp unaryOp emitInstruction storeConstant wordsOf hasDestination offsetWord regOf numberOf constantWords source sameRegister nameOf materialized lowerMaterializing moved named binarySources lowerArguments storeNamed storeKeyed lowerEntry lowerEntries lowerElse lowerTail lowerNode tested fusedSources fused jumpNode lowerExpression lowerJumpIfFalse lowerJumpIfTrue expressionBelow jumpBelow binaryRR binaryRK binaryKR unary comparison jumpRR jumpRK jumpKR jumpIf whole question1 question2 question3 question4 question5 question6 allBelow question7 question8 askNode askNodes questions begin lowerRoot answered lowerChecked lower placed registered allocateTemp freeTemp destination emit store loadConstant withOffset patchJump mark patchArgument patchMarks patchArguments present entryNodes children bind
+unfolding worthAt worthBelow nodeWorth lastNamed operate compared numbers truthful lt ofBits toBits nanBits capacity recordAt putRecord sameWords isAt positionFrom position append wordOf words tail bytesOf bit clear flip found allocated freed parameters lookup free takeOut putBack smallestFrom smallestFree allFree without taken givenBack nodeWord nodeAt binaryOp unaryOp emitInstruction storeConstant wordsOf hasDestination offsetWord regOf numberOf constantWords source sameRegister nameOf materialized lowerMaterializing moved named binarySources lowerArguments storeNamed storeKeyed lowerEntry lowerEntries lowerElse lowerTail lowerNode tested fusedSources fused jumpNode lowerExpression lowerJumpIfFalse lowerJumpIfTrue expressionBelow jumpBelow binaryRR binaryRK binaryKR unary comparison jumpRR jumpRK jumpKR jumpIf whole question1 question2 question3 question4 question5 question6 allBelow question7 question8 askNode askNodes questions begin lowerRoot answered lowerChecked lower placed registered allocateTemp freeTemp destination emit store loadConstant withOffset patchToNext mark patchArgument patchMarks patchArguments present entryNodes children bind
 nan-worth = refl
 
 -- the code returns 1
 nan-then : (rest : Registers ieee) → ruleRun nan rest 4 ≡ ended (returned (number one))
-unfolding rule compared numbers alike truthful lt le eq recordIn fetch constantAt constantOf target action act stepAt step after decode ofBits toBits nanBits capacity recordAt putRecord sameWords isAt positionFrom position append wordOf words tail bytesOf bit clear flip found allocated freed parameters lookup free takeOut putBack smallestFrom smallestFree allFree without taken givenBack nodeWord nodeAt binaryOp unaryOp emitInstruction storeConstant wordsOf hasDestination offsetWord regOf numberOf constantWords source sameRegister nameOf materialized lowerMaterializing moved named binarySources lowerArguments storeNamed storeKeyed lowerEntry lowerEntries lowerElse lowerTail lowerNode tested fusedSources fused jumpNode lowerExpression lowerJumpIfFalse lowerJumpIfTrue expressionBelow jumpBelow binaryRR binaryRK binaryKR unary comparison jumpRR jumpRK jumpKR jumpIf whole question1 question2 question3 question4 question5 question6 allBelow question7 question8 askNode askNodes questions begin lowerRoot answered lowerChecked lower placed registered allocateTemp freeTemp destination emit store loadConstant withOffset patchJump mark patchArgument patchMarks patchArguments present entryNodes children bind
+unfolding rule compared numbers alike truthful lt le eq recordIn fetch constantAt constantOf target action act stepAt step after decode ofBits toBits nanBits capacity recordAt putRecord sameWords isAt positionFrom position append wordOf words tail bytesOf bit clear flip found allocated freed parameters lookup free takeOut putBack smallestFrom smallestFree allFree without taken givenBack nodeWord nodeAt binaryOp unaryOp emitInstruction storeConstant wordsOf hasDestination offsetWord regOf numberOf constantWords source sameRegister nameOf materialized lowerMaterializing moved named binarySources lowerArguments storeNamed storeKeyed lowerEntry lowerEntries lowerElse lowerTail lowerNode tested fusedSources fused jumpNode lowerExpression lowerJumpIfFalse lowerJumpIfTrue expressionBelow jumpBelow binaryRR binaryRK binaryKR unary comparison jumpRR jumpRK jumpKR jumpIf whole question1 question2 question3 question4 question5 question6 allBelow question7 question8 askNode askNodes questions begin lowerRoot answered lowerChecked lower placed registered allocateTemp freeTemp destination emit store loadConstant withOffset patchToNext mark patchArgument patchMarks patchArguments present entryNodes children bind
 nan-then rest = refl
 
 met-worth : {F A : Type 0} {K : A → Type 0} {a : A} → IfAny {F = F} K (worth a) → K a
@@ -226,7 +226,7 @@ met-worth (met k) = k
 
 -- the order premise does not hold there
 nan-premise : OrderPremise ieee ruleTree (λ r. number nan) 4 → ⊥
-unfolding OrderPremise asksBelow nodeAsks conditionAsksBelow conditionAsks OrderAt worthBelow nodeWorth lastNamed operate compared numbers truthful isNan ofBits toBits nanBits capacity recordAt putRecord sameWords isAt positionFrom position append wordOf words tail bytesOf bit clear flip found allocated freed parameters lookup free takeOut putBack smallestFrom smallestFree allFree without taken givenBack nodeWord nodeAt binaryOp unaryOp emitInstruction storeConstant wordsOf hasDestination offsetWord regOf numberOf constantWords source sameRegister nameOf materialized lowerMaterializing moved named binarySources lowerArguments storeNamed storeKeyed lowerEntry lowerEntries lowerElse lowerTail lowerNode tested fusedSources fused jumpNode lowerExpression lowerJumpIfFalse lowerJumpIfTrue expressionBelow jumpBelow binaryRR binaryRK binaryKR unary comparison jumpRR jumpRK jumpKR jumpIf whole question1 question2 question3 question4 question5 question6 allBelow question7 question8 askNode askNodes questions begin lowerRoot answered lowerChecked lower placed registered allocateTemp freeTemp destination emit store loadConstant withOffset patchJump mark patchArgument patchMarks patchArguments present entryNodes children bind
+unfolding OrderPremise asksBelow nodeAsks conditionAsksBelow conditionAsks OrderAt worthBelow nodeWorth lastNamed operate compared numbers truthful isNan ofBits toBits nanBits capacity recordAt putRecord sameWords isAt positionFrom position append wordOf words tail bytesOf bit clear flip found allocated freed parameters lookup free takeOut putBack smallestFrom smallestFree allFree without taken givenBack nodeWord nodeAt binaryOp unaryOp emitInstruction storeConstant wordsOf hasDestination offsetWord regOf numberOf constantWords source sameRegister nameOf materialized lowerMaterializing moved named binarySources lowerArguments storeNamed storeKeyed lowerEntry lowerEntries lowerElse lowerTail lowerNode tested fusedSources fused jumpNode lowerExpression lowerJumpIfFalse lowerJumpIfTrue expressionBelow jumpBelow binaryRR binaryRK binaryKR unary comparison jumpRR jumpRK jumpKR jumpIf whole question1 question2 question3 question4 question5 question6 allBelow question7 question8 askNode askNodes questions begin lowerRoot answered lowerChecked lower placed registered allocateTemp freeTemp destination emit store loadConstant withOffset patchToNext mark patchArgument patchMarks patchArguments present entryNodes children bind
 nan-premise h = nan-unordered one (met-worth (met-worth (h .1)) .0)
 
 -- "With a NaN the then-branch runs, where IEEE 754 says the test is false.": the rule is worth 2 and its code returns 1, for the premise fails

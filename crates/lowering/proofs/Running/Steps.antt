@@ -30,7 +30,7 @@ use Rattle.runtime.specs.Instruction.{instructionWidth, wordsOf, offsetWord}
 use Rattle.runtime.specs.Value.{constantWidth, constantWords}
 use Rattle.runtime.specs.Function.{emitInstruction, storeConstant}
 use Rattle.lowering.specs.Walk.{Made, Outcome, ends, stops, Walk, bind, _>>=_}
-use Rattle.lowering.specs.Steps.{placed, registered, withRegisters, withCode, withConstants, allocateTemp, freeTemp, emit, store, withOffset, patchJump}
+use Rattle.lowering.specs.Steps.{placed, registered, withRegisters, withCode, withConstants, allocateTemp, freeTemp, emit, store, withOffset, patchToNext}
 use Rattle.runtime.proofs.Encoding.{length-words-of}
 use Rattle.lowering.proofs.Running.Decode.{aim, offset-small, record-set-same, record-set-other, constant-length}
 
@@ -349,8 +349,8 @@ module _ (j o : ℕ) (m : Made) (r : Room m) (h : j < count m) where
   unfolding withOffset
   offset-capacity = set-capacity (m .code) (instructionWidth * j + offsetWord (getD (m .code) (instructionWidth * j) 0)) o
 
-pub patch-holds : (j : ℕ) (m : Made) → Room m → j < count m → Holds (λ u m'. Patched j m m') (patchJump j m)
-unfolding patchJump
+pub patch-holds : (j : ℕ) (m : Made) → Room m → j < count m → Holds (λ u m'. Patched j m m') (patchToNext j m)
+unfolding patchToNext
 patch-holds j m r h = fine good
   where
     m' : Made

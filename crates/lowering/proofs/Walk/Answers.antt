@@ -21,7 +21,7 @@ use Rattle.lowering.specs.Tree.{Tree, treeOf}
 use Rattle.lowering.specs.Checked.{AllYes, FirstNo}
 use Rattle.lowering.specs.Walk.{Made, stops, left}
 use Rattle.lowering.specs.Steps.{freeTemp, withOffset}
-use Rattle.lowering.specs.Result.{Result, Lowered, result, leaves, begin, lowerRoot, answered, lowerChecked, lower, canPatch, Patched, patch}
+use Rattle.lowering.specs.Result.{Result, Lowered, result, leaves, begin, lowerRoot, answered, lowerChecked, lower, canPatch, JumpPatched, patchJump}
 use Rattle.lowering.specs.Trace.{Own, instructionsOf, constantsOf, marksOf}
 use Rattle.lowering.specs.Answers.{start, Untouched, Stopped, StopsWith, Tells, Ended, marksMade, markCount, Within, kind, MayPatch, MayNot, index-past, count-past, kind-below, kind-past, OneWord}
 use Rattle.lowering.proofs.Running.Decode.{offset-small}
@@ -197,7 +197,7 @@ module _ (nodes : List ℕ) (root mode : ℕ) (list names code constants marks :
 -- ---- Patching
 
 module _ (words : List ℕ) (count index offset : ℕ) where
-  abbrev chosen : Bool → Patched
+  abbrev chosen : Bool → JumpPatched
   chosen b = cond b (record { number = 0; code = withOffset words index offset }) (record { number = refusalNumber Refusal.Jump; code = words })
 
   can-may : canPatch words count index ≡ true → MayPatch words count index offset
@@ -220,8 +220,8 @@ module _ (words : List ℕ) (count index offset : ℕ) where
   may-can h = rw (lt-ltb index count (h .below), le-leb count (capacity 4 words) (h .within-buffer), le-leb 41 (kind words count index offset) (h .jump .low), le-leb (kind words count index offset) 53 (h .jump .high))
 
   -- Only: from patching, 0 or 19
-  pub only-patching : (patch words count index offset .number ≡ 0) ⊎ (patch words count index offset .number ≡ 19)
-  unfolding patch
+  pub only-patching : (patchJump words count index offset .number ≡ 0) ⊎ (patchJump words count index offset .number ≡ 19)
+  unfolding patchJump
   only-patching = go (canPatch words count index)
     where
       go : (b : Bool) → (chosen b .number ≡ 0) ⊎
@@ -230,18 +230,18 @@ module _ (words : List ℕ) (count index offset : ℕ) where
       go false = inr refl
 
   -- 0 exactly where it may be patched
-  pub patched-exactly : (patch words count index offset .number ≡ 0) ↔ MayPatch words count index offset
-  unfolding patch
+  pub patched-exactly : (patchJump words count index offset .number ≡ 0) ↔ MayPatch words count index offset
+  unfolding patchJump
   patched-exactly = (λ h. can-may (yes-of (canPatch words count index) h), λ h. rw (may-can h))
     where
       yes-of : (b : Bool) → chosen b .number ≡ 0 → b ≡ true
       yes-of true h = refl
       yes-of false h = absurd (omega arith)
 
-  pub refused-exactly : (patch words count index offset .number ≡ 19) ↔ MayNot words count index offset
+  pub refused-exactly : (patchJump words count index offset .number ≡ 19) ↔ MayNot words count index offset
   refused-exactly = (λ h. why h (decLt index count) (decLe count (capacity 4 words)) (decLe 41 (kind words count index offset)) (decLe (kind words count index offset) 53), λ h. refuses h only-patching)
     where
-      why : patch words count index offset .number ≡ 19 → Dec (index < count) → Dec (count ≤ capacity 4 words) → Dec (41 ≤ kind words count index offset) → Dec (kind words count index offset ≤ 53) → MayNot words count index offset
+      why : patchJump words count index offset .number ≡ 19 → Dec (index < count) → Dec (count ≤ capacity 4 words) → Dec (41 ≤ kind words count index offset) → Dec (kind words count index offset ≤ 53) → MayNot words count index offset
       why h (no a) b c d = index-past (omega arith)
       why h (yes a) (no b) c d = count-past (omega arith)
       why h (yes a) (yes b) (no c) d = kind-below (omega arith)
@@ -256,13 +256,13 @@ module _ (words : List ℕ) (count index offset : ℕ) where
       not-both (kind-below l) p = omega (arith, p .jump .low)
       not-both (kind-past l) p = omega (arith, p .jump .high)
 
-      refuses : MayNot words count index offset → (patch words count index offset .number ≡ 0) ⊎ (patch words count index offset .number ≡ 19) → patch words count index offset .number ≡ 19
+      refuses : MayNot words count index offset → (patchJump words count index offset .number ≡ 0) ⊎ (patchJump words count index offset .number ≡ 19) → patchJump words count index offset .number ≡ 19
       refuses h (inl e) = absurd (not-both h (patched-exactly .0 e))
       refuses h (inr e) = e
 
   -- with 19 nothing is written
-  pub patch-writes-nothing : patch words count index offset .number ≡ 19 → patch words count index offset .code ≡ words
-  unfolding patch
+  pub patch-writes-nothing : patchJump words count index offset .number ≡ 19 → patchJump words count index offset .code ≡ words
+  unfolding patchJump
   patch-writes-nothing h = go (canPatch words count index) h
     where
       go : (b : Bool) → chosen b .number ≡ 19 →
@@ -270,8 +270,8 @@ module _ (words : List ℕ) (count index offset : ℕ) where
       go true e = absurd (omega arith)
       go false e = refl
 
-  pub patch-writes-one : patch words count index offset .number ≡ 0 → OneWord words count index offset (patch words count index offset .code)
-  unfolding patch withOffset
+  pub patch-writes-one : patchJump words count index offset .number ≡ 0 → OneWord words count index offset (patchJump words count index offset .code)
+  unfolding patchJump withOffset
   patch-writes-one h =
       let p : MayPatch words count index offset = patched-exactly .0 h in
       let small : offsetWord (kind words count index offset) < 4 = offset-small (kind words count index offset) in

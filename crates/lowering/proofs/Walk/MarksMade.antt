@@ -27,7 +27,7 @@ use Rattle.lowering.specs.Tree.{Tree, node, children}
 use Rattle.lowering.specs.Questions.{question7}
 use Rattle.lowering.specs.Checked.{Checked}
 use Rattle.lowering.specs.Walk.{Made, Outcome, ends, stops, Walk, bind, _>>=_, _>>_, ret, error, left}
-use Rattle.lowering.specs.Steps.{placed, registered, withRegisters, withCode, withConstants, withMarks, allocateTemp, destination, freeTemp, emit, store, loadConstant, patchJump, mark, patchArgument, patchMarks, patchArguments}
+use Rattle.lowering.specs.Steps.{placed, registered, withRegisters, withCode, withConstants, withMarks, allocateTemp, destination, freeTemp, emit, store, loadConstant, patchToNext, mark, patchArgument, patchMarks, patchArguments}
 use Rattle.lowering.specs.Operators.{comparison}
 use Rattle.lowering.specs.Lower.{Source, register, constant, source, sameRegister, materialized, lowerMaterializing, moved, named, binarySources, lowerArguments, storeNamed, storeKeyed, lowerEntry, lowerEntries, lowerElse, lowerTail, lowerNode, tested, fusedSources, fused, jumpNode, expressionBelow, jumpBelow, lowerExpression, lowerJumpIfFalse, lowerJumpIfTrue}
 use Rattle.lowering.specs.Result.{lowerRoot}
@@ -89,8 +89,8 @@ module _ (b : ℕ) where
   unfolding freeTemp
   steady-free r = record { at = λ m. omega arith }
 
-  steady-patch : (j : ℕ) → Steady b (patchJump j)
-  unfolding patchJump
+  steady-patch : (j : ℕ) → Steady b (patchToNext j)
+  unfolding patchToNext
   steady-patch j = record { at = λ m. omega arith }
 
   steady-take : Steady b allocateTemp

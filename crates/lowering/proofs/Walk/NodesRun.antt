@@ -28,7 +28,7 @@ use Rattle.runtime.specs.Instruction.{wordsOf}
 use Rattle.lowering.specs.declared.Dest.{Dest}
 use Rattle.lowering.specs.Tree.{Tree, node, spanStart, spanEnd, present, entryNodes, children}
 use Rattle.lowering.specs.Walk.{Made, stops, Walk, _>>=_, _>>_, ret, error}
-use Rattle.lowering.specs.Steps.{destination, emit, loadConstant, patchJump}
+use Rattle.lowering.specs.Steps.{destination, emit, loadConstant, patchToNext}
 use Rattle.lowering.specs.Operators.{binaryRR, binaryRK, binaryKR, unary, comparison, jumpRR, jumpRK, jumpKR, jumpIf}
 use Rattle.lowering.specs.Lower.{Source, register, constant, source, sameRegister, nameOf, materialized, lowerMaterializing, moved, named, binarySources, lowerArguments, storeNamed, storeKeyed, lowerEntry, lowerEntries, lowerElse, lowerTail, lowerNode, tested, fusedSources, fused, jumpNode}
 use Rattle.lowering.specs.Meaning.{Named, first, later, Reaches}
@@ -350,7 +350,7 @@ module _ (t : Tree) (root : ℕ) where
         (left right : ℕ) → P left → P right → (dest : Dest) (m : Made) → Sound (registersOf m) → Target m dest →
         Good t root (Lowered m dest)
         (λ F. destination dest >>= (λ d. lowerMaterializing (E F left) (Dest.To d) >>= (λ src. emit (jump (regOf src)) >>= (λ j.
-        lowerMaterializing (E F right) (Dest.To d) >> (patchJump j >> ret (Operand.Register d)))))) m
+        lowerMaterializing (E F right) (Dest.To d) >> (patchToNext j >> ret (Operand.Register d)))))) m
     logical-good jump fits jumps left right pl pr dest m s g =
         chain (destination-good m dest g) (λ d m0 a.
         let s0 : Sound (registersOf m0) = a .kept .sound s in

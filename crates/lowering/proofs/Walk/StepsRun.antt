@@ -36,7 +36,7 @@ use Rattle.syntax.specs.declared.ast.Node.{Node}
 use Rattle.lowering.specs.declared.Dest.{Dest}
 use Rattle.lowering.specs.Tree.{Tree, node, spanStart, spanEnd}
 use Rattle.lowering.specs.Walk.{Made, Outcome, ends, stops, Walk, bind, _>>=_, _>>_, ret, error, unnamed}
-use Rattle.lowering.specs.Steps.{placed, registered, withRegisters, withCode, withConstants, withMarks, withOffset, allocateTemp, destination, freeTemp, freeHeld, emit, store, patchJump, mark}
+use Rattle.lowering.specs.Steps.{placed, registered, withRegisters, withCode, withConstants, withMarks, withOffset, allocateTemp, destination, freeTemp, freeHeld, emit, store, patchToNext, mark}
 use Rattle.lowering.specs.Meaning.{Reaches}
 use Rattle.lowering.specs.Fields.{Narrow}
 use Rattle.lowering.specs.Trace.{Runs, step, returns, follows, halts, Step, takes, gives, leaves, emits, finds, pools, patches, marks, refuses, Own, Owned, registersOf, Held, Free, instructionsOf, constantsOf, marksOf, kindAt, JumpKind}
@@ -375,12 +375,12 @@ module _ {t : Tree} {root : ℕ} where
 
   -- ---- jumps
 
-  pub patch-good : (j : ℕ) (m : Made) → j < instructionsOf m → JumpKind (kindAt m j) → Good t root (λ u n. Patched m n) (λ F. patchJump j) m
-  unfolding patchJump withOffset
+  pub patch-good : (j : ℕ) (m : Made) → j < instructionsOf m → JumpKind (kindAt m j) → Good t root (λ u n. Patched m n) (λ F. patchToNext j) m
+  unfolding patchToNext withOffset
   patch-good j m l k = one {o = ends tt (withCode (withOffset (m .code) j (instructionsOf m - j)) (instructionsOf m) m)} made (patches j l k)
       (fine (record { kept = record { sound = λ s. s; held = λ r x. x; more = le-refl _; pooled = le-refl _; kinds = other }; registers = refl }))
     where
-      made : patchJump j m ≡ ends tt (withCode (withOffset (m .code) j (instructionsOf m - j)) (instructionsOf m) m)
+      made : patchToNext j m ≡ ends tt (withCode (withOffset (m .code) j (instructionsOf m - j)) (instructionsOf m) m)
       made = refl
 
       other : (p : ℕ) → p < instructionsOf m → getD (withOffset (m .code) j (instructionsOf m - j)) (4 * p) 0 ≡ kindAt m p

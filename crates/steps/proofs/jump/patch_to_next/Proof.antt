@@ -3,7 +3,7 @@ use mathlib.Core.Path.{_≡_, _∙_}
 use Prim.Native.Nat.{_-_}
 use mathlib.Core.Logic.{⊎-elim}
 use native.Mathlib.Omega.{arith}
-use Rattle.lowering.specs.Steps.{patchJump}
+use Rattle.lowering.specs.Steps.{patchToNext}
 use borrow.Author.Needs.{needs}
 use Rattle.steps.proofs.jump.patch_to_next.Statement.{statement}
 use Rattle.steps.proofs.jump.patch_to_next.Tie as tie
@@ -15,7 +15,7 @@ same-length : tie.Need-same-length
 same-length c = search needs
 
 returns : tie.Need-returns
-unfolding patchJump
+unfolding patchToNext
 returns c =
     let a = c .before .before .before .before .before .before .args in
     let offset : c .before .before .before .before .if1 .offset ≡ a .state .instructions - a .place = ⊎-elim (λ w. w .1) (λ w. w .1 ∙ omega (arith, w .0 .left)) (c .before .before .before .before .if1 .came) in
