@@ -7,30 +7,8 @@ use oracle::{
     reference::{reference_answer, reference_patch},
     tree::{Input, Room, Tree, bytes, kind, operator, words},
 };
+use sewurogi::ffi::{sewurogi_lower, sewurogi_patch_jump};
 use std::array;
-
-unsafe extern "C" {
-    fn sewurogi_lower(
-        nodes: *const u8,
-        nodes_length: usize,
-        root: u32,
-        mode: u32,
-        list: *const u8,
-        list_length: usize,
-        names: *const u8,
-        names_length: usize,
-        code: *mut u8,
-        code_length: usize,
-        constants: *mut u8,
-        constants_length: usize,
-        marks: *mut u8,
-        marks_length: usize,
-        result: *mut u8,
-        result_length: usize,
-    );
-
-    fn sewurogi_patch_jump(code: *mut u8, code_length: usize, count: u32, index: u32, offset: u32) -> u32;
-}
 
 /// The slices of `sewurogi_lower`, in their order.
 const SLICES: [&str; 7] = ["nodes", "list", "names", "code", "constants", "marks", "result"];
