@@ -1,13 +1,13 @@
 // Replays recorded answers: lists each text of data/answers.txt, and compares every byte with the answer recorded for it.
 ghost use mathlib.Core.Path.{_≡_};
-ghost use mathlib.Core.Bool.{true};
-ghost use Prim.Native.Nat.{_≤_, _<_};
+ghost use Prim.Native.Nat.{_≤_};
 ghost use lib.ListN.{length};
 ghost use Rattle.listing.specs.Output.{lowerlist};
+ghost use Rattle.vectors.specs.Answers.{lineEnd, commentsEnd, number, caseAt, sameBytes, outcome};
 use check::same;
 use libc::STDOUT_FILENO;
-use lister::LISTING_BYTES;
 use lister::list;
+use lister::listing_buffer;
 use listing::column::COLUMN_BYTES;
 use listing::column::Column;
 use listing::column::read_column;
@@ -28,7 +28,7 @@ struct Case {
     next: usize,
 }
 
-// How many cases there are, how many of them agree, where the line of the first that does not begins (the record's end if all do), and where the last ends.
+// How many cases the record says that it has, how many agree, where the line of the first that differs begins (the record's end if none does), and where the last ends.
 struct Outcome {
     cases: u32,
     agreeing: u32,
@@ -38,15 +38,17 @@ struct Outcome {
 
 // Whether `answer` is the listing of `text`.
 fn agrees(text: &[u8], answer: &[u8]) -> bool
-    ensures { λ r. ⌜ (r ≡ true → lowerlist (now (text .entry)) ≡ now (answer .entry)) × (lowerlist (now (text .entry)) ≡ now (answer .entry) → r ≡ true) ⌝ }
+    ensures { λ r. ⌜ r ≡ sameBytes (lowerlist (now (text .entry))) (now (answer .entry)) ⌝ }
 {
-    let mut out = [0u8; LISTING_BYTES];
+    let mut out = listing_buffer();
     let printed = list(text, &mut out);
     same(&out[..printed], answer)
 }
 
 // The number in the column at `at`; 0 where there is none.
-fn number(s: &[u8], at: usize) -> u32 {
+fn number(s: &[u8], at: usize) -> u32
+    ensures { λ r. ⌜ r ≡ number (now (s .entry)) at ⌝ }
+{
     let c = read_column(s, at);
     match c {
         Column::Blank => 0,
@@ -58,7 +60,8 @@ fn number(s: &[u8], at: usize) -> u32 {
 // The end of the line at `at`: past its line feed, or the end of `s`.
 fn line_end(s: &[u8], at: usize) -> usize
     requires { ⌜ at ≤ length (now s) ⌝ }
-    ensures { λ r. ⌜ (at ≤ r) × (r ≤ length (now (s .entry))) × (at < length (now (s .entry)) → at < r) ⌝ }
+    ensures end { λ r. ⌜ r ≡ lineEnd (now (s .entry)) at ⌝ }
+    ensures within { λ r. ⌜ r ≤ length (now (s .entry)) ⌝ }
 {
     let mut i = at;
     while i < s.len() {
@@ -72,7 +75,7 @@ fn line_end(s: &[u8], at: usize) -> usize
 
 // The end of the lines that begin with '#'.
 fn comments_end(s: &[u8]) -> usize
-    ensures { λ r. ⌜ r ≤ length (now (s .entry)) ⌝ }
+    ensures { λ r. ⌜ r ≡ commentsEnd (now (s .entry)) ⌝ }
 {
     let mut at = 0;
     while at < s.len() {
@@ -87,7 +90,7 @@ fn comments_end(s: &[u8]) -> usize
 // The case whose line begins at `at`.
 fn case_at(answers: &[u8], at: usize) -> Case
     requires { ⌜ at ≤ length (now answers) ⌝ }
-    ensures { λ r. ⌜ (r .text ≤ r .answer) × (r .answer ≤ r .next) ⌝ }
+    ensures { λ r. ⌜ r ≡ caseAt (now (answers .entry)) at ⌝ }
 {
     let text = line_end(answers, at);
     let answer = text + number(answers, at + COLUMN_BYTES * TEXT_COLUMN) as usize;
@@ -97,7 +100,8 @@ fn case_at(answers: &[u8], at: usize) -> Case
 
 // Replays the cases of a record, up to the first that is not whole.
 fn replay(answers: &[u8]) -> Outcome
-    ensures { λ r. ⌜ r .differing ≤ length (now (answers .entry)) ⌝ }
+    ensures outcome { λ r. ⌜ r ≡ outcome (now (answers .entry)) ⌝ }
+    ensures within { λ r. ⌜ r .differing ≤ length (now (answers .entry)) ⌝ }
 {
     let mut at = comments_end(answers);
     let cases = number(answers, at);
@@ -115,7 +119,7 @@ fn replay(answers: &[u8]) -> Outcome
         }
         if agrees(&answers[text..answer], &answers[answer..next]) {
             agreeing += 1;
-        } else if differing == answers.len() {
+        } else if agreeing == i {
             differing = at;
         }
         at = next;
