@@ -3,7 +3,8 @@
 `cargo build --release --offline` in oracle/.
 
 The cases: every one of the oracle's answers.txt; of its more.txt those that LONG names; the deepest shapes that a text of 512 nodes can hold; and the
-rules of docs/RULES.md. Each answer is the oracle's: kaori's own, or document 01's where kaori has none."""
+rules of docs/RULES.md. Each answer is the oracle's: kaori's own, or document 01's where kaori has none. Last comes one case with a wrong answer, which
+the replay must report."""
 import pathlib
 import re
 import subprocess
@@ -17,8 +18,18 @@ NUMBERS = 4
 DEPTH = 510
 SOURCES = {"": 0, "kaori panicked": 1}
 DOCUMENT = 2
+WRONG = 3
 X, Y = 0, 1
-LONG = ["past 2,048 instructions", "513 marks", "text: 513 nodes", "text: 513 list words"]
+LONG = [
+    "254 nil arguments to x",
+    "255 nil arguments to x",
+    "past 2,048 instructions",
+    "513 marks",
+    "text: 513 nodes",
+    "text: 513 list words",
+]
+PAGE = "the worked page"
+JUMP, OTHER_JUMP = [41, 2, 0, 0], [41, 3, 0, 0]
 
 
 def line(words):
@@ -107,6 +118,21 @@ def cases():
         yield case
 
 
+def wrong(cases):
+    """The worked page, with one digit of its answer changed: the offset of its jump. A replay that finds no difference is no test, so one case must
+    differ. It is the last one: the report names the first case that differs, so any other that does is named in its place."""
+    _, _, text, answer = next(case for case in cases if case[0] == PAGE)
+    right, other = line(JUMP).encode(), line(OTHER_JUMP).encode()
+    if answer.count(right) != 1:
+        sys.exit(f"{PAGE}: not one jump in its answer")
+    return f"wrong on purpose: {PAGE} with another offset", WRONG, text, answer.replace(right, other)
+
+
+def first_line(place, name, source, text, answer):
+    numbers = line([place, source, len(text), len(answer)]).rstrip("\n")
+    return f"{numbers} {name}\n"
+
+
 HEAD = """\
 # Recorded answers for `lowerlist`: the text it reads, and what it must print. tools/vectors.py made this file; it says which cases there are.
 #
@@ -119,21 +145,30 @@ HEAD = """\
 # Nothing follows the last answer.
 #
 # Source: 0 kaori's own answer; 1 kaori panics there, and document 01 gives the panic its number; 2 document 01's answer, kaori has none (refused
-# before the walk, a bound, or a text laid out otherwise).
+# before the walk, a bound, or a text laid out otherwise); 3 a wrong answer, made of kaori's by changing one digit. Only the last case has a wrong
+# answer. The replay must report it, and it reports the first case that differs: so it reports this one only if no other differs.
 """
 
 
 def main():
     listed = list(cases())
+    missing = set(LONG) - {name for name, _, _, _ in listed}
+    if missing:
+        sys.exit(f"the oracle records no {missing}")
+    listed.append(wrong(listed))
     data = HEAD.encode() + line([len(listed)]).encode()
-    for place, (name, source, text, answer) in enumerate(listed):
-        numbers = line([place, source, len(text), len(answer)]).rstrip("\n")
-        data += f"{numbers} {name}\n".encode() + text + answer
+    for place, case in enumerate(listed):
+        data += first_line(place, *case).encode() + case[2] + case[3]
+    last = len(listed) - 1
+    report = f"{last} of {len(listed)} answers agree\n" + first_line(last, *listed[last])
     (CRATE / "data").mkdir(parents=True, exist_ok=True)
     (CRATE / "data" / "answers.txt").write_bytes(data)
-    (CRATE / "stdout").write_text(f"{len(listed)} of {len(listed)} answers agree\n", encoding="utf-8")
-    sources = [sum(source == of for _, source, _, _ in listed) for of in range(3)]
-    print(f"{len(listed)} cases ({sources[0]} of kaori's, {sources[1]} of its panics, {sources[2]} of document 01's), {len(data)} bytes")
+    (CRATE / "stdout").write_text(report, encoding="utf-8")
+    sources = [sum(source == of for _, source, _, _ in listed) for of in range(4)]
+    print(
+        f"{len(listed)} cases ({sources[0]} of kaori's, {sources[1]} of its panics, {sources[2]} of document 01's, {sources[3]} wrong on purpose), "
+        f"{len(data)} bytes"
+    )
 
 
 main()
