@@ -2,14 +2,14 @@
 -- Assumes nothing.
 use mathlib.Core.Path.{_≡_, refl, sym, ap, _∙_}
 use mathlib.Core.Logic.{_≢_}
-use Prim.Native.Nat.{ℕ, zero, suc, _+_, _*_, _-_, _/_, _%_, _^_, _<_, max}
+use Prim.Native.Nat.{ℕ, zero, suc, _+_, _*_, _-_, _/_, _%_, _^_, _<_}
 use native.Mathlib.Omega.{arith}
 use native.Mathlib.Numerals.{one-add}
 use native.Mathlib.Nat.{pow-suc, one-mul, mod-eq-of-lt}
 use lib.Pow.{shr-shr, pow-pos, pow-lt}
-use lib.Bits.{bitOr, bitXor, bitAnd, or-step, xor-step, or-zero-r, xor-zero-r, and-mask, differ}
+use lib.Bits.{bitXor, bitAnd, xor-step, xor-zero-r, and-mask, differ}
 use lib.Count.{trailingZeros, under}
-use Rattle.environment.specs.Bits.{bit, clear, raise, flip}
+use Rattle.environment.specs.Bits.{bit, clear, flip}
 
 -- a bit is 0 or 1, and 0 has none set
 pub bit-lt : (n k : ℕ) → bit n k < 2
@@ -61,24 +61,11 @@ flip-other n zero (suc j) h = let e : (n / 2 * 2 + (1 - n % 2)) / 2 ≡ n / 2 = 
 flip-other n (suc k) zero h = lowest-join (flip (n / 2) k) n
 flip-other n (suc k) (suc j) h = rw half-join (flip-other (n / 2) k j (λ e. h (ap suc e)))
 
--- bit k set, and the others
-pub raise-same : (n k : ℕ) → bit (raise n k) k ≡ 1
-unfolding bit raise
-raise-same n zero = omega arith
-raise-same n (suc k) = rw half-join (raise-same (n / 2) k)
-
-pub raise-other : (n k j : ℕ) → j ≢ k → bit (raise n k) j ≡ bit n j
-unfolding bit raise
-raise-other n zero zero h = absurd (h refl)
-raise-other n zero (suc j) h = let e : (n / 2 * 2 + 1) / 2 ≡ n / 2 = omega arith in rw e
-raise-other n (suc k) zero h = lowest-join (raise (n / 2) k) n
-raise-other n (suc k) (suc j) h = rw half-join (raise-other (n / 2) k j (λ e. h (ap suc e)))
-
--- a bit that is set already
-pub raise-set : (n k : ℕ) → bit n k ≡ 1 → raise n k ≡ n
-unfolding bit raise
-raise-set n zero h = omega arith
-raise-set n (suc k) h = rw (raise-set (n / 2) k h) (omega arith)
+-- a set bit turned over is cleared
+pub flip-clear : (n k : ℕ) → bit n k ≡ 1 → flip n k ≡ clear n k
+unfolding bit flip clear
+flip-clear n zero h = omega arith
+flip-clear n (suc k) h = rw (flip-clear (n / 2) k h)
 
 -- every bit of the greatest number of m bits is set
 pub bit-greatest : (m k : ℕ) → k < m → bit (2 ^ m - 1) k ≡ 1
@@ -111,16 +98,6 @@ module _ (k : ℕ) where
   lowest-pow : 2 ^ suc k % 2 ≡ 0
   lowest-pow = omega (arith, pow-suc 2 k)
 
--- `n | (1 << k)`
-pub or-pow : (n k : ℕ) → bitOr n (2 ^ k) ≡ raise n k
-unfolding raise
-or-pow n zero =
-    let m : max (n % 2) 1 ≡ 1 = omega arith in
-    or-step n 1 ∙ rw (or-zero-r (n / 2), m)
-or-pow n (suc k) =
-    let m : max (n % 2) 0 ≡ n % 2 = omega arith in
-    or-step n (2 ^ suc k) ∙ rw (half-pow k, lowest-pow k, or-pow (n / 2) k, m)
-
 differ-zero : (x : ℕ) → differ x 0 ≡ x
 differ-zero zero = refl
 differ-zero (suc x) = refl
@@ -130,17 +107,11 @@ differ-one zero h = refl
 differ-one (suc zero) h = refl
 differ-one (suc (suc x)) h = absurd (omega arith)
 
--- `n ^ (1 << k)` turns a bit over
-pub flip-pow : (n k : ℕ) → bitXor n (2 ^ k) ≡ flip n k
+-- `n ^ (1 << k)`
+pub xor-pow : (n k : ℕ) → bitXor n (2 ^ k) ≡ flip n k
 unfolding flip
-flip-pow n zero = xor-step n 1 ∙ rw (xor-zero-r (n / 2), differ-one (n % 2) (omega arith)) (omega arith)
-flip-pow n (suc k) = xor-step n (2 ^ suc k) ∙ rw (half-pow k, lowest-pow k, flip-pow (n / 2) k, differ-zero (n % 2))
-
--- `n ^ (1 << k)` clears a bit that is set
-pub xor-pow : (n k : ℕ) → bit n k ≡ 1 → bitXor n (2 ^ k) ≡ clear n k
-unfolding clear bit
-xor-pow n zero h = xor-step n 1 ∙ rw (xor-zero-r (n / 2), h) (omega arith)
-xor-pow n (suc k) h = xor-step n (2 ^ suc k) ∙ rw (half-pow k, lowest-pow k, xor-pow (n / 2) k h, differ-zero (n % 2))
+xor-pow n zero = xor-step n 1 ∙ rw (xor-zero-r (n / 2), differ-one (n % 2) (omega arith)) (omega arith)
+xor-pow n (suc k) = xor-step n (2 ^ suc k) ∙ rw (half-pow k, lowest-pow k, xor-pow (n / 2) k, differ-zero (n % 2))
 
 -- `trailing_zeros` counts up to the lowest bit that is set
 pub below-trailing : (k n j : ℕ) → j < trailingZeros k n → bit n j ≡ 0

@@ -9,13 +9,13 @@ use native.Mathlib.Omega.{arith}
 use native.Mathlib.Decide.{ℕ-discrete, decLt}
 use lib.Dec.{eqb}
 use lib.ListN.{length, getD, set, length-set, List·getD-eq-default}
-use lib.Seq.{getD-set-same, getD-set-other, set-getD}
-use lib.Bits.{bitOr, bitXor, bitAnd}
+use lib.Seq.{getD-set-same, getD-set-other}
+use lib.Bits.{bitXor, bitAnd}
 use lib.Count.{trailingZeros}
 use borrow.Author.Tests.{eq-eqb, eqb-true, eqb-false}
 use Rattle.environment.specs.Bits.{bit, clear, flip}
 use Rattle.environment.specs.Registers.{free, takeOut, putBack, smallestFrom, smallestFree}
-use Rattle.environment.proofs.Bits.{bit-lt, bit-of-zero, clear-same, clear-other, flip-same, flip-set, flip-other, and-shift, shift-one, flip-pow, xor-pow, below-trailing, at-trailing}
+use Rattle.environment.proofs.Bits.{bit-lt, bit-of-zero, clear-same, clear-other, flip-same, flip-set, flip-other, flip-clear, and-shift, shift-one, xor-pow, below-trailing, at-trailing}
 
 -- free, by the bit
 module _ (ws : List ℕ) (r : ℕ) where
@@ -54,6 +54,11 @@ module _ (ws : List ℕ) (r : ℕ) where
   pub length-putBack : length (putBack ws r) ≡ length ws
   unfolding putBack
   length-putBack = length-set ws (r / 64) _
+
+-- a free register turned over is taken out
+pub putBack-free : (ws : List ℕ) (r : ℕ) → free ws r ≡ true → putBack ws r ≡ takeOut ws r
+unfolding takeOut putBack
+putBack-free ws r h = ap (set ws (r / 64)) (flip-clear (getD ws (r / 64) 0) (r % 64) (bit-of-free ws r h))
 
 module _ (ws : List ℕ) (r : ℕ) (there : r / 64 < length ws) where
   pub takeOut-same : free (takeOut ws r) r ≡ false
@@ -164,15 +169,11 @@ module _ (ws : List ℕ) (i : ℕ) (zeros : (k : ℕ) → k < i → 64 ≤ trail
   smallestFree-in-none h =
       sym (smallestFree-none ws (λ j g. not-free-of-bit ws j (below-trailing 64 (getD ws (j / 64) 0) (j % 64) (omega (arith, zeros (j / 64) (omega arith))))))
 
--- what `take`, `give_back` and `held` make of a word
+-- what `flipped` and `held` make of a word
 module _ (ws : List ℕ) (r : ℕ) where
-  pub xor-takeOut : free ws r ≡ true → set ws (r / 64) (bitXor (getD ws (r / 64) 0) ((1 * 2 ^ (r % 64)) % 18446744073709551616)) ≡ takeOut ws r
-  unfolding takeOut
-  xor-takeOut h = ap (set ws (r / 64)) (ap (bitXor (getD ws (r / 64) 0)) (shift-one (r % 64) (omega arith)) ∙ xor-pow _ (r % 64) (bit-of-free ws r h))
-
-  pub flip-putBack : set ws (r / 64) (bitXor (getD ws (r / 64) 0) ((1 * 2 ^ (r % 64)) % 18446744073709551616)) ≡ putBack ws r
+  pub xor-putBack : set ws (r / 64) (bitXor (getD ws (r / 64) 0) ((1 * 2 ^ (r % 64)) % 18446744073709551616)) ≡ putBack ws r
   unfolding putBack
-  flip-putBack = ap (set ws (r / 64)) (ap (bitXor (getD ws (r / 64) 0)) (shift-one (r % 64) (omega arith)) ∙ flip-pow _ (r % 64))
+  xor-putBack = ap (set ws (r / 64)) (ap (bitXor (getD ws (r / 64) 0)) (shift-one (r % 64) (omega arith)) ∙ xor-pow _ (r % 64))
 
   pub and-free : eqb (bitAnd (getD ws (r / 64) 0 / 2 ^ (r % 64)) 1) 0 ≡ not (free ws r)
   unfolding free

@@ -40,15 +40,6 @@ module _ (s : RegisterSet) (r : ℕ) where
   unfolding held
   free-of-held l h = not-false (free (s .words) r) (rw (lt-ltb r 256 l) at h)
 
-  -- a held register is below 256
-  pub held-lt : held s r ≡ true → r < 256
-  unfolding held
-  held-lt h = go (ltb r 256) refl h
-    where
-      go : (b : Bool) → ltb r 256 ≡ b → (b && not (free (s .words) r)) ≡ true → r < 256
-      go true e p = ltb-true r 256 e
-      go false e p = absurd (false≢true p)
-
   -- none past the 256 is held
   pub not-held-past : 256 ≤ r → held s r ≡ false
   unfolding held

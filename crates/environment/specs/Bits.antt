@@ -15,8 +15,3 @@ clear n (suc k) = clear (n / 2) k * 2 + n % 2
 unfoldable pub flip : ℕ → ℕ → ℕ
 flip n zero = n / 2 * 2 + (1 - n % 2)
 flip n (suc k) = flip (n / 2) k * 2 + n % 2
-
--- n with bit k set
-unfoldable pub raise : ℕ → ℕ → ℕ
-raise n zero = n / 2 * 2 + 1
-raise n (suc k) = raise (n / 2) k * 2 + n % 2

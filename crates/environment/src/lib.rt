@@ -63,15 +63,31 @@ impl RegisterSet {
         256
     }
 
+    // The set with the bit of register r turned over; a number past the last register changes nothing. The frame size stays.
+    fn flipped(self, r: u32) -> RegisterSet
+        ensures { λ s. ⌜ s ≡ givenBack self r ⌝ }
+    {
+        if r < 256 {
+            let i = (r / 64) as usize;
+            let mut words = self.words;
+            words[i] = words[i] ^ (1u64 << (r % 64));
+            RegisterSet {
+                words: words,
+                frame_size: self.frame_size,
+            }
+        } else {
+            self
+        }
+    }
+
     // Takes the smallest free register.
     pub fn take(self) -> Taken
         ensures { λ r. ⌜ r ≡ taken self ⌝ }
     {
         let r = self.smallest_free();
         if r < 256 {
-            let i = (r / 64) as usize;
-            let mut words = self.words;
-            words[i] = words[i] ^ (1u64 << (r % 64));
+            let flipped = self.flipped(r);
+            let words = flipped.words;
             let old = self.frame_size;
             let frame_size = if old < r + 1 { r + 1 } else { old };
             Taken {
@@ -93,17 +109,7 @@ impl RegisterSet {
     pub fn give_back(self, r: u32) -> RegisterSet
         ensures { λ s. ⌜ s ≡ givenBack self r ⌝ }
     {
-        if r < 256 {
-            let i = (r / 64) as usize;
-            let mut words = self.words;
-            words[i] = words[i] ^ (1u64 << (r % 64));
-            RegisterSet {
-                words: words,
-                frame_size: self.frame_size,
-            }
-        } else {
-            self
-        }
+        self.flipped(r)
     }
 
     // Whether register r is held; a number past the last register is not.

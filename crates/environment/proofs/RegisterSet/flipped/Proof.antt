@@ -1,10 +1,10 @@
--- `RegisterSet::give_back` meets its contract: the mask has the register's bit alone, and `or` sets it. Assumes nothing.
+-- `RegisterSet::flipped` meets its contract: the mask has the register's bit alone, and `xor` turns it over. Assumes nothing.
 use borrow.Author.Tests.{lt-ltb, le-ltb}
 use Rattle.environment.specs.Registers.{givenBack}
-use Rattle.environment.proofs.Free.{flip-putBack}
+use Rattle.environment.proofs.Free.{xor-putBack}
 use borrow.Author.Needs.{needs}
-use Rattle.environment.proofs.RegisterSet.give_back.Statement.{statement}
-use Rattle.environment.proofs.RegisterSet.give_back.Tie as tie
+use Rattle.environment.proofs.RegisterSet.flipped.Statement.{statement}
+use Rattle.environment.proofs.RegisterSet.flipped.Tie as tie
 
 cast-i : tie.Need-cast-i
 cast-i c = search needs
@@ -29,14 +29,14 @@ array-write-words c = search needs
 
 returns : tie.Need-returns
 unfolding givenBack
-returns c = rw (lt-ltb _ _ (c .before .if1 .taken), flip-putBack (c .before .before .args .self .words) (c .before .before .args .r))
+returns c = rw (lt-ltb _ _ (c .before .if1 .taken), xor-putBack (c .before .before .args .self .words) (c .before .before .args .r))
 
 returns-2 : tie.Need-returns-2
 unfolding givenBack
 returns-2 c = rw (le-ltb _ _ (c .if1 .left))
 
-pub give-back-spec : {M : Type 1} → statement M
-give-back-spec =
+pub flipped-spec : {M : Type 1} → statement M
+flipped-spec =
     tie.close
     (tie.spec
     cast-i
