@@ -2,11 +2,11 @@
 -- Assumes nothing.
 use mathlib.Core.Path.{_≡_, refl, sym, ap, _∙_}
 use mathlib.Core.Logic.{_≢_}
-use Prim.Native.Nat.{ℕ, zero, suc, _+_, _*_, _-_, _/_, _%_, _^_, _<_}
+use Prim.Native.Nat.{ℕ, zero, suc, _+_, _*_, _-_, _/_, _%_, _^_, _<_, _≤_}
 use native.Mathlib.Omega.{arith}
 use native.Mathlib.Numerals.{one-add}
-use native.Mathlib.Nat.{pow-suc, one-mul, mod-eq-of-lt}
-use lib.Pow.{shr-shr, pow-pos, pow-lt}
+use native.Mathlib.Nat.{pow-suc, one-mul, mul-suc, mul-comm, mod-eq-of-lt}
+use lib.Pow.{shr-shr, pow-pos, pow-lt, low, suc-ones}
 use lib.Bits.{bitXor, bitAnd, xor-step, xor-zero-r, and-mask, differ}
 use lib.Count.{trailingZeros, under}
 use Rattle.environment.specs.Bits.{bit, clear, flip}
@@ -67,6 +67,10 @@ unfolding bit flip clear
 flip-clear n zero h = omega arith
 flip-clear n (suc k) h = rw (flip-clear (n / 2) k h)
 
+-- half of a number whose lowest m + 1 bits are 0
+half-above : (w m : ℕ) → (2 ^ suc w - 2 ^ suc m) / 2 ≡ 2 ^ w - 2 ^ m
+half-above w m = omega (arith, pow-suc 2 w, pow-suc 2 m)
+
 -- every bit of the greatest number of m bits is set
 pub bit-greatest : (m k : ℕ) → k < m → bit (2 ^ m - 1) k ≡ 1
 unfolding bit
@@ -75,6 +79,29 @@ bit-greatest (suc m) zero h = omega (arith, pow-suc 2 m, pow-pos m)
 bit-greatest (suc m) (suc k) h =
     let e : (2 ^ suc m - 1) / 2 ≡ 2 ^ m - 1 = omega (arith, pow-suc 2 m, pow-pos m) in
     rw e (bit-greatest m k (omega arith))
+
+-- of the number whose lowest m of w bits are 0 and the others 1: each bit, and the lowest that is set cleared
+pub bit-below : (w m k : ℕ) → m ≤ w → k < m → bit (2 ^ w - 2 ^ m) k ≡ 0
+unfolding bit
+bit-below w zero k h l = absurd (omega arith)
+bit-below zero (suc m) k h l = absurd (omega arith)
+bit-below (suc w) (suc m) zero h l = omega (arith, pow-suc 2 w, pow-suc 2 m)
+bit-below (suc w) (suc m) (suc k) h l = rw (half-above w m) (bit-below w m k (omega arith) (omega arith))
+
+pub bit-above : (w m k : ℕ) → m ≤ k → k < w → bit (2 ^ w - 2 ^ m) k ≡ 1
+unfolding bit
+bit-above w zero k h l = bit-greatest w k l
+bit-above w (suc m) zero h l = absurd (omega arith)
+bit-above zero (suc m) (suc k) h l = absurd (omega arith)
+bit-above (suc w) (suc m) (suc k) h l = rw (half-above w m) (bit-above w m k (omega arith) (omega arith))
+
+pub clear-lowest : (w m : ℕ) → m < w → clear (2 ^ w - 2 ^ m) m ≡ 2 ^ w - 2 ^ suc m
+unfolding clear
+clear-lowest zero m h = absurd (omega arith)
+clear-lowest (suc w) zero h = omega (arith, pow-suc 2 w, pow-pos w)
+clear-lowest (suc w) (suc m) h =
+    let even : (2 ^ suc w - 2 ^ suc m) % 2 ≡ 0 = omega (arith, pow-suc 2 w, pow-suc 2 m) in
+    rw (half-above w m, clear-lowest w m (omega arith), even) (omega (arith, pow-suc 2 w, pow-suc 2 (suc m)))
 
 -- `(n >> k) & 1`
 bit-shift : (n k : ℕ) → bit n k ≡ n / 2 ^ k % 2
@@ -90,6 +117,17 @@ pub shift-one : (k : ℕ) → k < 64 → (1 * 2 ^ k) % 18446744073709551616 ≡ 
 shift-one k h =
     let b : 2 ^ k < 2 ^ 64 = pow-lt h in
     ap (λ x. x % 18446744073709551616) (one-mul (2 ^ k)) ∙ mod-eq-of-lt b
+
+-- `0xffff_ffff_ffff_ffff << k`
+times-greatest : (m q : ℕ) → q ≤ m → m * suc q ≡ q * suc m + (m - q)
+times-greatest m q h = omega (arith, mul-suc m q, mul-suc q m, mul-comm m q)
+
+pub shift-ones : (k : ℕ) → k < 64 → (18446744073709551615 * 2 ^ k) % 18446744073709551616 ≡ 2 ^ 64 - 2 ^ k
+shift-ones k h =
+    let b : 2 ^ k < 2 ^ 64 = pow-lt h in
+    let q : 18446744073709551615 - (2 ^ k - 1) ≡ 2 ^ 64 - 2 ^ k = omega (arith, pow-pos k) in
+    ap (λ x. (18446744073709551615 * x) % 18446744073709551616) (sym (suc-ones k)) ∙ ap (λ x. x % 18446744073709551616) (times-greatest 18446744073709551615 (2 ^ k - 1) (omega arith))
+    ∙ low (2 ^ k - 1) 64 (omega arith) ∙ q
 
 module _ (k : ℕ) where
   half-pow : 2 ^ suc k / 2 ≡ 2 ^ k

@@ -10,12 +10,12 @@ use native.Mathlib.Decide.{ℕ-discrete, decLt}
 use lib.Dec.{eqb}
 use lib.ListN.{length, getD, set, length-set, List·getD-eq-default}
 use lib.Seq.{getD-set-same, getD-set-other}
-use lib.Bits.{bitXor, bitAnd}
+use lib.Bits.{bitAnd}
 use lib.Count.{trailingZeros}
 use borrow.Author.Tests.{eq-eqb, eqb-true, eqb-false}
 use Rattle.environment.specs.Bits.{bit, clear, flip}
 use Rattle.environment.specs.Registers.{free, takeOut, putBack, smallestFrom, smallestFree}
-use Rattle.environment.proofs.Bits.{bit-lt, bit-of-zero, clear-same, clear-other, flip-same, flip-set, flip-other, flip-clear, and-shift, shift-one, xor-pow, below-trailing, at-trailing}
+use Rattle.environment.proofs.Bits.{bit-lt, bit-of-zero, clear-same, clear-other, flip-same, flip-set, flip-other, flip-clear, and-shift, below-trailing, at-trailing}
 
 -- free, by the bit
 module _ (ws : List ℕ) (r : ℕ) where
@@ -23,7 +23,7 @@ module _ (ws : List ℕ) (r : ℕ) where
   unfolding free
   free-of-bit h = eq-eqb _ _ h
 
-  not-free-of-bit : bit (getD ws (r / 64) 0) (r % 64) ≡ 0 → free ws r ≡ false
+  pub not-free-of-bit : bit (getD ws (r / 64) 0) (r % 64) ≡ 0 → free ws r ≡ false
   unfolding free
   not-free-of-bit h = rw h
 
@@ -133,7 +133,7 @@ module _ (ws : List ℕ) where
   smallestFree-le = omega (arith, smallest ws 256 0 .most)
 
   -- and it is the only such
-  smallestFree-unique : (r : ℕ) → r < 256 → free ws r ≡ true → ((j : ℕ) → j < r → free ws j ≡ false) → smallestFree ws ≡ r
+  pub smallestFree-unique : (r : ℕ) → r < 256 → free ws r ≡ true → ((j : ℕ) → j < r → free ws j ≡ false) → smallestFree ws ≡ r
   smallestFree-unique r h e before = go (decLt (smallestFree ws) r) (decLt r (smallestFree ws))
     where
       go : Dec (smallestFree ws < r) → Dec (r < smallestFree ws) → smallestFree ws ≡ r
@@ -169,12 +169,8 @@ module _ (ws : List ℕ) (i : ℕ) (zeros : (k : ℕ) → k < i → 64 ≤ trail
   smallestFree-in-none h =
       sym (smallestFree-none ws (λ j g. not-free-of-bit ws j (below-trailing 64 (getD ws (j / 64) 0) (j % 64) (omega (arith, zeros (j / 64) (omega arith))))))
 
--- what `flipped` and `held` make of a word
+-- `held`: what the shift and the mask make of a word
 module _ (ws : List ℕ) (r : ℕ) where
-  pub xor-putBack : set ws (r / 64) (bitXor (getD ws (r / 64) 0) ((1 * 2 ^ (r % 64)) % 18446744073709551616)) ≡ putBack ws r
-  unfolding putBack
-  xor-putBack = ap (set ws (r / 64)) (ap (bitXor (getD ws (r / 64) 0)) (shift-one (r % 64) (omega arith)) ∙ xor-pow _ (r % 64))
-
   pub and-free : eqb (bitAnd (getD ws (r / 64) 0 / 2 ^ (r % 64)) 1) 0 ≡ not (free ws r)
   unfolding free
   and-free = rw (and-shift (getD ws (r / 64) 0) (r % 64)) (go (bit (getD ws (r / 64) 0) (r % 64)) (bit-lt (getD ws (r / 64) 0) (r % 64)))

@@ -3,8 +3,8 @@
 use mathlib.Core.Path.{_≡_, refl, sym, ap, _∙_, subst}
 use mathlib.Core.Logic.{_≢_, _↔_}
 use mathlib.Core.List.{List}
-use mathlib.Core.Bool.{Bool, true, false, cond, not, _&&_, true≢false, false≢true}
-use Prim.Native.Nat.{ℕ, zero, suc, _-_, _/_, _%_, _^_, _<_, _≤_}
+use mathlib.Core.Bool.{Bool, true, false, cond, not, _&&_, true≢false}
+use Prim.Native.Nat.{ℕ, zero, suc, _/_, _<_, _≤_}
 use native.Mathlib.Omega.{arith}
 use native.Mathlib.Decide.{ℕ-discrete, decLt}
 use lib.Dec.{ltb, eqb}
@@ -19,8 +19,8 @@ use Rattle.environment.specs.declared.Found.{Found}
 use Rattle.environment.specs.Registers.{allFree, free, smallestFree, putBack, without, taken, givenBack, held}
 use Rattle.environment.specs.Environment.{found, allocated, freed, parameters, lookup}
 use Rattle.environment.specs.Laws.{Sound, Takes, Refuses, Gives, Last, Undeclared}
-use Rattle.environment.proofs.Bits.{bit-greatest}
-use Rattle.environment.proofs.Free.{free-of-bit, word-of-free, length-takeOut, length-putBack, takeOut-same, takeOut-other, putBack-same, putBack-taken, putBack-other, smallestFree-free, smallestFree-before, smallestFree-none}
+use Rattle.environment.proofs.Parameters.{lowest, held-lower, free-upper, smallest-free, parameters-lowest}
+use Rattle.environment.proofs.Free.{word-of-free, length-takeOut, length-putBack, takeOut-same, takeOut-other, putBack-same, putBack-taken, putBack-other, smallestFree-free, smallestFree-before, smallestFree-none}
 
 -- `held` and `free` say the opposite of a register below 256
 module _ (s : RegisterSet) (r : ℕ) where
@@ -125,18 +125,6 @@ module _ (s : RegisterSet) where
       go (Place.At q) e = (q, e)
       go (Place.Refused refusal) e = absurd (true≢false (sym (refused refusal e .all-held r l) ∙ h))
 
-  -- and which: the smallest
-  pub smallest-answered : (r : ℕ) → r < 256 → held s r ≡ false → ((j : ℕ) → j < r → held s j ≡ true) → taken s .place ≡ Place.At r
-  smallest-answered r l h smaller = go (answered r l h)
-    where
-      go : (q : ℕ) × (taken s .place ≡ Place.At q) → taken s .place ≡ Place.At r
-      go (q, e) = e ∙ ap Place.At (same (decLt q r) (decLt r q))
-        where
-          same : Dec (q < r) → Dec (r < q) → q ≡ r
-          same (yes a) b = absurd (true≢false (sym (smaller q a) ∙ place-takes q e .was-free))
-          same (no a) (yes b) = absurd (true≢false (sym (place-takes q e .smaller-held r b) ∙ h))
-          same (no a) (no b) = omega arith
-
 -- a take from a sound set
 module _ {s t : RegisterSet} {r : ℕ} (k : Takes s r t) (sound : Sound s) where
   -- leaves a sound set: every held register stays below the frame size
@@ -217,36 +205,6 @@ module _ (s : RegisterSet) (r : ℕ) where
   unfolding freed
   free-local = refl
 
--- the first set: every bit of its four words is set
-all-free-word : (i : ℕ) → i < 4 → getD (allFree .words) i 0 ≡ 2 ^ 64 - 1
-unfolding allFree
-all-free-word zero h = refl
-all-free-word (suc zero) h = refl
-all-free-word (suc (suc zero)) h = refl
-all-free-word (suc (suc (suc zero))) h = refl
-all-free-word (suc (suc (suc (suc i)))) h = absurd (omega arith)
-
-all-free-whole : length (allFree .words) ≡ 4
-unfolding allFree
-all-free-whole = refl
-
--- nothing is held in it
-pub all-free : (r : ℕ) → held allFree r ≡ false
-all-free r = go (decLt r 256)
-  where
-    go : Dec (r < 256) → held allFree r ≡ false
-    go (yes l) = held-of-free allFree r (free-of-bit (allFree .words) r (rw (all-free-word (r / 64) (omega arith)) (bit-greatest 64 (r % 64) (omega arith))))
-    go (no l) = not-held-past allFree r (omega arith)
-
--- its frame is empty
-pub all-free-frame : allFree .«frame_size» ≡ 0
-unfolding allFree
-all-free-frame = refl
-
--- and it is sound
-pub all-free-sound : Sound allFree
-all-free-sound = record { whole = all-free-whole; below = λ r h. absurd (true≢false (sym h ∙ all-free r)) }
-
 -- a register of the kind is allocated from s, which leaves t
 pub record Allocates (kind : ℕ → Register) (s : RegisterSet) (register : Register) (t : RegisterSet) : Type 0 where
   -- the register's number
@@ -280,49 +238,37 @@ module _ (kind : ℕ → Register) (s : RegisterSet) where
   unfolding allocated
   allocated-sound sound = taken-sound s sound
 
--- the n lowest registers are held, and no other
-record Lowest (n : ℕ) (s : RegisterSet) : Type 0 where
-  pub held-below : (j : ℕ) → held s j ≡ ltb j n
-  pub frame : s .«frame_size» ≡ n
-
--- so the next one taken is n, which leaves the n + 1 lowest
-lowest-next : (n : ℕ) (s : RegisterSet) → n < 256 → Lowest n s → taken s .place ≡ Place.At n
-lowest-next n s l k = smallest-answered s n l (k .held-below n ∙ le-ltb n n (omega arith)) (λ j h. k .held-below j ∙ lt-ltb j n h)
-
-lowest-take : (n : ℕ) (s t : RegisterSet) → Lowest n s → Takes s n t → Lowest (suc n) t
-lowest-take n s t k taking = record { held-below = λ j. go j (ℕ-discrete j n); frame = omega (arith, taking .frame, k .frame) }
-  where
-    go : (j : ℕ) → Dec (j ≡ n) → held t j ≡ ltb j (suc n)
-    go j (yes q) = rw q (taking .now-held ∙ sym (lt-ltb n (suc n) (omega arith)))
-    go j (no q) = taking .others j q ∙ k .held-below j ∙ same (decLt j n)
-      where
-        same : Dec (j < n) → ltb j n ≡ ltb j (suc n)
-        same (yes l) = lt-ltb j n l ∙ sym (lt-ltb j (suc n) (omega arith))
-        same (no l) = le-ltb j n (omega arith) ∙ sym (le-ltb j (suc n) (omega arith))
-
-lowest-parameters : (n : ℕ) → n ≤ 256 → Lowest n (parameters n)
-unfolding parameters allocated
-lowest-parameters zero h = record { held-below = λ j. all-free j ∙ sym (le-ltb j 0 (omega arith)); frame = all-free-frame }
-lowest-parameters (suc n) h =
-    let k : Lowest n (parameters n) = lowest-parameters n (omega arith) in
-    lowest-take n (parameters n) _ k (place-takes (parameters n) n (lowest-next n (parameters n) (omega arith) k))
-
 -- "parameters take registers 0 upward"
 module _ (n : ℕ) where
   -- exactly the first n registers are held
   pub parameters-held : n ≤ 256 → (j : ℕ) → held (parameters n) j ≡ ltb j n
-  parameters-held h = lowest-parameters n h .held-below
+  parameters-held h j = rw (parameters-lowest n) (go (decLt j n) (decLt j 256))
+    where
+      go : Dec (j < n) → Dec (j < 256) → held (lowest n) j ≡ ltb j n
+      go (yes l) m = held-of-not-free (lowest n) j (omega arith) (held-lower n j (omega arith) l) ∙ sym (lt-ltb j n l)
+      go (no l) (yes m) = held-of-free (lowest n) j (free-upper n j m (omega arith)) ∙ sym (le-ltb j n (omega arith))
+      go (no l) (no m) = not-held-past (lowest n) j (omega arith) ∙ sym (le-ltb j n (omega arith))
 
   -- the frame size is n
   pub parameters-frame : n ≤ 256 → parameters n .«frame_size» ≡ n
-  parameters-frame h = lowest-parameters n h .frame
+  parameters-frame h = rw (parameters-lowest n) (omega arith)
 
   -- the next parameter takes register n
   pub parameters-next : n < 256 → allocated Register.Local (parameters n) .register ≡ Found.At (Register.Local n)
-  unfolding allocated found
-  parameters-next l = rw (lowest-next n (parameters n) l (lowest-parameters n (omega arith)))
+  unfolding allocated found taken
+  parameters-next l = rw (parameters-lowest n, smallest-free n l, lt-ltb n 256 l)
 
--- the set is sound, also past the 256 that have a register
+-- nothing is held in the first set
+pub all-free : (r : ℕ) → held allFree r ≡ false
+unfolding parameters
+all-free r = parameters-held 0 (omega arith) r ∙ le-ltb r 0 (omega arith)
+
+-- and it is sound
+pub all-free-sound : Sound allFree
+unfolding allFree
+all-free-sound = record { whole = refl; below = λ r h. absurd (true≢false (sym h ∙ all-free r)) }
+
+-- the parameters' set is sound, also past the 256 that have a register
 pub parameters-sound : (n : ℕ) → Sound (parameters n)
 unfolding parameters
 parameters-sound zero = all-free-sound

@@ -1,3 +1,5 @@
 mod Bits
 mod Free
+mod Four
+mod Parameters
 pub mod Laws

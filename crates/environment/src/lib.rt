@@ -1,11 +1,23 @@
 // Registers (kaori's codegen/environment.rs): the register set, the parameters' registers and the lookup of a name.
 ghost use mathlib.Core.Path.{_≡_};
+ghost use mathlib.Core.Bool.{cond};
+ghost use Prim.Native.Nat.{_-_, _/_, _%_, _^_, min};
+ghost use lib.Dec.{eqb};
 ghost use Rattle.words.specs.Words.{words};
 ghost use Rattle.environment.specs.Registers.{allFree, smallestFree, taken, givenBack, held};
 ghost use Rattle.environment.specs.Environment.{allocated, freed, parameters, lookup};
 use diagnostics::Place;
 use diagnostics::Refusal;
 use words::word;
+
+// How many registers there are.
+const REGISTERS: u32 = 256;
+
+// How many of them are in one word of a set.
+const BITS: u32 = 64;
+
+// A word of free registers: every bit is set.
+const ALL_FREE: u64 = 0xffff_ffff_ffff_ffff;
 
 // A temporary is given back when its value was read; a local is a parameter or an argument's destination, and never is.
 pub enum Register {
@@ -36,13 +48,34 @@ pub struct Allocated {
     pub register: Found,
 }
 
+// The bit of register r in word i of a set, or 0 where the register is in another word.
+fn bit_in(i: u32, r: u32) -> u64
+    ensures { λ b. ⌜ b ≡ cond (eqb (r / 64) i) (2 ^ (r % 64)) 0 ⌝ }
+{
+    if r / BITS == i { 1u64 << (r % BITS) } else { 0 }
+}
+
+// The word of the registers from `first` on in which those below `arity` are held.
+fn held_below(arity: u32, first: u32) -> u64
+    ensures { λ w. ⌜ w ≡ 2 ^ 64 - 2 ^ min 64 (arity - first) ⌝ }
+{
+    if arity <= first {
+        ALL_FREE
+    } else if arity - first < BITS {
+        ALL_FREE << (arity - first)
+    } else {
+        0
+    }
+}
+
+// The lowering calls nothing here that indexes a set's words by a variable, which would keep the set in memory.
 impl RegisterSet {
     // All 256 are free.
     pub fn new() -> RegisterSet
         ensures { λ r. ⌜ r ≡ allFree ⌝ }
     {
         RegisterSet {
-            words: [0xffff_ffff_ffff_ffff; 4],
+            words: [ALL_FREE; 4],
             frame_size: 0,
         }
     }
@@ -52,31 +85,46 @@ impl RegisterSet {
         ensures { λ r. ⌜ r ≡ smallestFree (self .words) ⌝ }
     {
         let words = self.words;
-        let mut i: usize = 0;
-        while i < 4 {
-            let t = u64::trailing_zeros(words[i]);
-            if t < 64 {
-                return 64 * (i as u32) + t;
-            }
-            i += 1;
+        let t0 = u64::trailing_zeros(words[0]);
+        if t0 < BITS {
+            return t0;
         }
-        256
+        let t1 = u64::trailing_zeros(words[1]);
+        if t1 < BITS {
+            return BITS + t1;
+        }
+        let t2 = u64::trailing_zeros(words[2]);
+        if t2 < BITS {
+            return 2 * BITS + t2;
+        }
+        let t3 = u64::trailing_zeros(words[3]);
+        if t3 < BITS {
+            return 3 * BITS + t3;
+        }
+        REGISTERS
     }
 
-    // The set with the bit of register r turned over; a number past the last register changes nothing. The frame size stays.
+    // The set with the bit of register r turned over; a number past the last register changes nothing. The first word, where nearly every
+    // register of a rule is, has a way of its own.
     fn flipped(self, r: u32) -> RegisterSet
         ensures { λ s. ⌜ s ≡ givenBack self r ⌝ }
     {
-        if r < 256 {
-            let i = (r / 64) as usize;
-            let mut words = self.words;
-            words[i] = words[i] ^ (1u64 << (r % 64));
-            RegisterSet {
-                words: words,
-                frame_size: self.frame_size,
-            }
-        } else {
-            self
+        let words = self.words;
+        let frame_size = self.frame_size;
+        if r < BITS {
+            return RegisterSet {
+                words: [words[0] ^ (1u64 << r), words[1], words[2], words[3]],
+                frame_size,
+            };
+        }
+        RegisterSet {
+            words: [
+                words[0],
+                words[1] ^ bit_in(1, r),
+                words[2] ^ bit_in(2, r),
+                words[3] ^ bit_in(3, r),
+            ],
+            frame_size,
         }
     }
 
@@ -85,16 +133,13 @@ impl RegisterSet {
         ensures { λ r. ⌜ r ≡ taken self ⌝ }
     {
         let r = self.smallest_free();
-        if r < 256 {
+        if r < REGISTERS {
             let flipped = self.flipped(r);
             let words = flipped.words;
             let old = self.frame_size;
             let frame_size = if old < r + 1 { r + 1 } else { old };
             Taken {
-                set: RegisterSet {
-                    words: words,
-                    frame_size: frame_size,
-                },
+                set: RegisterSet { words, frame_size },
                 place: Place::At(r),
             }
         } else {
@@ -116,11 +161,11 @@ impl RegisterSet {
     pub fn held(self, r: u32) -> bool
         ensures { λ b. ⌜ b ≡ held self r ⌝ }
     {
-        if r < 256 {
-            let i = (r / 64) as usize;
+        if r < REGISTERS {
+            let i = (r / BITS) as usize;
             let words = self.words;
             let w = words[i];
-            (w >> (r % 64)) & 1 == 0
+            (w >> (r % BITS)) & 1 == 0
         } else {
             false
         }
@@ -172,19 +217,19 @@ impl RegisterSet {
         }
     }
 
-    // The set in which each of `arity` parameters was allocated as a local, one after the other.
+    // The set in which each of `arity` parameters was allocated as a local, one after the other: they hold the lowest registers.
     pub fn with_parameters(arity: u32) -> RegisterSet
         ensures { λ s. ⌜ s ≡ parameters arity ⌝ }
     {
-        let mut set = RegisterSet::new();
-        let mut i: u32 = 0;
-        while i < arity {
-            let allocated = set.allocate_local();
-            let next = allocated.set;
-            set = next;
-            i += 1;
+        RegisterSet {
+            words: [
+                held_below(arity, 0),
+                held_below(arity, BITS),
+                held_below(arity, 2 * BITS),
+                held_below(arity, 3 * BITS),
+            ],
+            frame_size: if arity < REGISTERS { arity } else { REGISTERS },
         }
-        set
     }
 }
 

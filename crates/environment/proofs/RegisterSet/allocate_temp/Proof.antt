@@ -4,15 +4,6 @@ use borrow.Author.Needs.{needs}
 use Rattle.environment.proofs.RegisterSet.allocate_temp.Statement.{statement}
 use Rattle.environment.proofs.RegisterSet.allocate_temp.Tie as tie
 
-take-requires : tie.Need-take-requires
-take-requires c κs = search needs
-
-enum-known-place : tie.Need-enum-known-place
-enum-known-place c = search needs
-
-enum-known-place-2 : tie.Need-enum-known-place-2
-enum-known-place-2 c = search needs
-
 returns : tie.Need-returns
 unfolding allocated found
 returns c = rw (← c .before .before .before .before .take .ensures, c .before .place .given .1)
@@ -23,4 +14,4 @@ returns-2 c = rw (← c .before .before .before .before .take .ensures, c .befor
 
 pub allocate-temp-spec : {M : Type 1} → statement M
 allocate-temp-spec =
-    tie.close (tie.spec take-requires enum-known-place enum-known-place-2 returns returns-2)
+    tie.close (tie.spec (search needs) (search needs) (search needs) returns returns-2)

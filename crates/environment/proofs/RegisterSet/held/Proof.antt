@@ -6,21 +6,6 @@ use borrow.Author.Needs.{needs}
 use Rattle.environment.proofs.RegisterSet.held.Statement.{statement}
 use Rattle.environment.proofs.RegisterSet.held.Tie as tie
 
-cast-i : tie.Need-cast-i
-cast-i c = search needs
-
-mul-w : tie.Need-mul-w
-mul-w c = search needs
-
-array-read-w : tie.Need-array-read-w
-array-read-w c = search needs
-
-cast-result : tie.Need-cast-result
-cast-result c = search needs
-
-shr-result : tie.Need-shr-result
-shr-result c = search needs
-
 returns : tie.Need-returns
 unfolding held
 returns c = rw (lt-ltb _ _ (c .before .if1 .taken)) (and-free (c .before .before .args .self .words) (c .before .before .args .r))
@@ -30,4 +15,4 @@ unfolding held
 returns-2 c = rw (le-ltb _ _ (c .if1 .left))
 
 pub held-spec : {M : Type 1} → statement M
-held-spec = tie.close (tie.spec cast-i mul-w array-read-w cast-result shr-result returns returns-2)
+held-spec = tie.close (tie.spec (search needs) (search needs) (search needs) (search needs) (search needs) returns returns-2)

@@ -1,67 +1,81 @@
--- `RegisterSet::smallest_free` meets its contract. The loop's invariant: no word passed has a bit set, so none of its registers is free.
--- The measure is how many words are left. Assumes nothing.
-use Prim.Native.Nat.{ℕ, _<_, _≤_, _-_}
+-- `RegisterSet::smallest_free` meets its contract: at each word, no word before it has a bit set, so none of their registers is free.
+-- Assumes nothing.
+use mathlib.Core.Path.{_≡_}
+use mathlib.Core.List.{List}
+use Prim.Native.Nat.{ℕ, _+_, _<_, _≤_}
 use native.Mathlib.Omega.{arith}
-use borrow.Author.Count.{below-more}
+use borrow.Author.Count.{below-none, below-more}
+use borrow.Author.Needs.{needs}
 use lib.ListN.{getD}
 use lib.Count.{trailingZeros}
+use Rattle.environment.specs.Registers.{smallestFree}
 use Rattle.environment.proofs.Free.{smallestFree-in-word, smallestFree-in-none}
 use Rattle.environment.proofs.RegisterSet.smallest_free.Statement.{statement}
 use Rattle.environment.proofs.RegisterSet.smallest_free.Tie as tie
 
-abbrev Inv-loop : tie.InvT-loop
-Inv-loop words i₀ i = (i ≤ 4) × ((k : ℕ) → k < i → 64 ≤ trailingZeros 64 (getD words k 0))
+-- of word k: how many zeros its lowest bits are, 64 if no bit is set
+abbrev zeros : List ℕ → ℕ → ℕ
+zeros ws k = trailingZeros 64 (getD ws k 0)
 
-abbrev μ-loop : tie.MeasureT-loop
-μ-loop words i₀ i = 4 - i
+-- what is answered at the first word that has a bit set, and where none has
+module _ (ws : List ℕ) where
+  in-first : zeros ws 0 < 64 → zeros ws 0 ≡ smallestFree ws
+  in-first t = omega (arith, smallestFree-in-word ws 0 (below-none _) (omega arith) t)
 
-loop-holds : tie.Need-loop-holds Inv-loop μ-loop
-loop-holds c = (omega arith, λ k h. absurd (omega arith))
+  module _ (a : 64 ≤ zeros ws 0) where
+    before-second : (k : ℕ) → k < 1 → 64 ≤ zeros ws k
+    before-second = below-more (λ k. 64 ≤ zeros ws k) 0 (below-none _) a
 
-mul-t : tie.Need-mul-t Inv-loop μ-loop
-mul-t c = omega arith
+    in-second : zeros ws 1 < 64 → 64 + zeros ws 1 ≡ smallestFree ws
+    in-second t = smallestFree-in-word ws 1 before-second (omega arith) t
 
-array-read-t : tie.Need-array-read-t Inv-loop μ-loop
-array-read-t c = omega arith
+    module _ (b : 64 ≤ zeros ws 1) where
+      before-third : (k : ℕ) → k < 2 → 64 ≤ zeros ws k
+      before-third = below-more (λ k. 64 ≤ zeros ws k) 1 before-second b
 
-cast-result : tie.Need-cast-result Inv-loop μ-loop
-cast-result c = omega arith
+      in-third : zeros ws 2 < 64 → 128 + zeros ws 2 ≡ smallestFree ws
+      in-third t = smallestFree-in-word ws 2 before-third (omega arith) t
 
-mul-result : tie.Need-mul-result Inv-loop μ-loop
-mul-result c = omega arith
+      module _ (d : 64 ≤ zeros ws 2) where
+        before-fourth : (k : ℕ) → k < 3 → 64 ≤ zeros ws k
+        before-fourth = below-more (λ k. 64 ≤ zeros ws k) 2 before-third d
 
-add-result : tie.Need-add-result Inv-loop μ-loop
-add-result c = omega arith
+        in-fourth : zeros ws 3 < 64 → 192 + zeros ws 3 ≡ smallestFree ws
+        in-fourth t = smallestFree-in-word ws 3 before-fourth (omega arith) t
 
-returns : tie.Need-returns Inv-loop μ-loop
-returns c = smallestFree-in-word (c .before .before .before .before .args .self .words) _ (c .before .before .loop .inv .1) (omega arith) (c .if1 .taken)
+        in-none : 64 ≤ zeros ws 3 → 256 ≡ smallestFree ws
+        in-none t = smallestFree-in-none ws 4 (below-more (λ k. 64 ≤ zeros ws k) 3 before-fourth t) (omega arith)
 
-add-i : tie.Need-add-i Inv-loop μ-loop
-add-i c = omega arith
+returns : tie.Need-returns
+returns c = in-first (c .before .before .args .self .words) (omega arith)
 
-loop-less : tie.Need-loop-less Inv-loop μ-loop
-loop-less c = omega arith
+returns-2 : tie.Need-returns-2
+returns-2 c = in-second (c .before .before .before .args .self .words) (omega arith) (omega arith)
 
-loop-again : tie.Need-loop-again Inv-loop μ-loop
-loop-again c = (omega arith, below-more _ _ (c .before .before .loop .inv .1) (c .if1 .left))
+returns-3 : tie.Need-returns-3
+returns-3 c = in-third (c .before .before .before .before .args .self .words) (omega arith) (omega arith) (omega arith)
 
-returns-2 : tie.Need-returns-2 Inv-loop μ-loop
-returns-2 c = smallestFree-in-none _ _ (c .before .loop .inv .1) (omega arith)
+returns-4 : tie.Need-returns-4
+returns-4 c = in-fourth (c .before .before .before .before .before .args .self .words) (omega arith) (omega arith) (omega arith) (omega arith)
+
+returns-5 : tie.Need-returns-5
+returns-5 c = in-none (c .before .before .before .before .before .args .self .words) (omega arith) (omega arith) (omega arith) (omega arith)
 
 pub smallest-free-spec : {M : Type 1} → statement M
 smallest-free-spec =
     tie.close
     (tie.spec
-    Inv-loop
-    μ-loop
-    loop-holds
-    mul-t
-    array-read-t
-    cast-result
-    mul-result
-    add-result
+    (search needs)
     returns
-    add-i
-    loop-less
-    loop-again
-    returns-2)
+    (search needs)
+    (search needs)
+    returns-2
+    (search needs)
+    (search needs)
+    (search needs)
+    returns-3
+    (search needs)
+    (search needs)
+    (search needs)
+    returns-4
+    returns-5)

@@ -27,18 +27,6 @@ taken-none : (s : RegisterSet) (r : ℕ) → r ≡ smallestFree (s .words) → 2
 unfolding taken
 taken-none s r e h = let l : 256 ≤ smallestFree (s .words) = rw e at h in rw (le-ltb (smallestFree (s .words)) 256 l)
 
-smallest-free-requires : tie.Need-smallest-free-requires
-smallest-free-requires c κs = search needs
-
-flipped-requires : tie.Need-flipped-requires
-flipped-requires c κs = search needs
-
-add-if2 : tie.Need-add-if2
-add-if2 c = search needs
-
-add-frame-size : tie.Need-add-frame-size
-add-frame-size c = search needs
-
 returns : tie.Need-returns
 returns c =
     let at-flipped = c .before .before in
@@ -58,10 +46,10 @@ pub take-spec : {M : Type 1} → statement M
 take-spec =
     tie.close
     (tie.spec
-    smallest-free-requires
-    flipped-requires
-    add-if2
-    add-frame-size
+    (search needs)
+    (search needs)
+    (search needs)
+    (search needs)
     returns
     returns-2
     returns-3)
