@@ -18,7 +18,7 @@ use Rattle.environment.specs.declared.Taken.{Taken}
 use Rattle.environment.specs.declared.Found.{Found}
 use Rattle.environment.specs.Registers.{allFree, free, smallestFree, putBack, without, taken, givenBack, held}
 use Rattle.environment.specs.Environment.{found, allocated, freed, parameters, lookup}
-use Rattle.environment.specs.Laws.{Sound, Takes, Refuses, Gives, Last, Undeclared}
+use Rattle.environment.specs.Laws.{Sound, Takes, Refuses, Gives, GivesFree, Last, Undeclared}
 use Rattle.environment.proofs.Parameters.{lowest, held-lower, free-upper, smallest-free, parameters-lowest}
 use Rattle.environment.proofs.Free.{word-of-free, length-takeOut, length-putBack, takeOut-same, takeOut-other, putBack-same, putBack-taken, putBack-other, smallestFree-free, smallestFree-before, smallestFree-none}
 
@@ -174,12 +174,18 @@ gives s r sound h = go (decLt r 256)
         let past : 256 ≤ r = omega arith in
         rw (le-ltb r 256 past) (record { now-free = not-held-past s r past; others = λ j ne. refl; frame = refl; words = refl })
 
--- one that is not held is held afterwards, so two give-backs are not one
-pub give-free : (s : RegisterSet) (r : ℕ) → Sound s → r < 256 → held s r ≡ false → held (givenBack s r) r ≡ true
-unfolding givenBack held
+-- one that is not held is held afterwards, and nothing else changes: two give-backs are not one
+pub give-free : (s : RegisterSet) (r : ℕ) → Sound s → r < 256 → held s r ≡ false → GivesFree s r (givenBack s r)
+unfolding givenBack
 give-free s r sound l h =
     let there : r / 64 < length (s .words) = omega (arith, sound .whole) in
-    rw (lt-ltb r 256 l, putBack-taken (s .words) r there (free-of-held s r l h))
+    rw (lt-ltb r 256 l)
+    (record {
+      now-held = held-of-not-free _ r l (putBack-taken (s .words) r there (free-of-held s r l h));
+      others = λ j ne. held-of-same-free s _ j (putBack-other (s .words) r there j ne);
+      frame = refl;
+      words = length-putBack (s .words) r;
+    })
 
 -- giving back leaves a sound set
 pub give-sound : {s t : RegisterSet} {r : ℕ} → Gives s r t → Sound s → Sound t

@@ -3,3 +3,4 @@ mod Free
 mod Four
 mod Parameters
 pub mod Laws
+pub mod Refuted

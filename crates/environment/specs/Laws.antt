@@ -43,10 +43,21 @@ pub record Refuses (s : RegisterSet) (refusal : Refusal) (t : RegisterSet) : Typ
   -- all 256 are held
   pub all-held : (j : ℕ) → j < 256 → held s j ≡ true
 
--- "Taking or giving back a register hands the set back changed": register r is given back to s, which leaves t
+-- "Taking or giving back a register hands the set back changed": register r, which is held, is given back to s, which leaves t
 pub record Gives (s : RegisterSet) (r : ℕ) (t : RegisterSet) : Type 0 where
   -- it is not held now
   pub now-free : held t r ≡ false
+  -- no other changes
+  pub others : (j : ℕ) → j ≢ r → held t j ≡ held s j
+  -- the frame size stays
+  pub frame : t .«frame_size» ≡ s .«frame_size»
+  -- there are as many words as before
+  pub words : length (t .words) ≡ length (s .words)
+
+-- "No register is ever given back twice": register r, which is not held, is given back to s all the same, which leaves t
+pub record GivesFree (s : RegisterSet) (r : ℕ) (t : RegisterSet) : Type 0 where
+  -- it is held now, though none took it: the set shows it
+  pub now-held : held t r ≡ true
   -- no other changes
   pub others : (j : ℕ) → j ≢ r → held t j ≡ held s j
   -- the frame size stays

@@ -14,9 +14,11 @@ use Rattle.environment.specs.Bits.{bit, clear, flip}
 unfoldable pub free : List ℕ → ℕ → Bool
 free ws r = eqb (bit (getD ws (r / 64) 0) (r % 64)) 1
 
+-- register r no longer free: its bit is cleared
 unfoldable pub takeOut : List ℕ → ℕ → List ℕ
 takeOut ws r = set ws (r / 64) (clear (getD ws (r / 64) 0) (r % 64))
 
+-- register r turned over: its bit is set where it was clear, as it is of a held register
 unfoldable pub putBack : List ℕ → ℕ → List ℕ
 putBack ws r = set ws (r / 64) (flip (getD ws (r / 64) 0) (r % 64))
 
@@ -47,6 +49,6 @@ taken s =
     (record { set = without s (smallestFree (s .words)); place = Place.At (smallestFree (s .words)) })
     (record { set = s; place = Place.Refused Refusal.Registers })
 
--- a register given back, which is held, is free; the frame size stays. One that is free is held afterwards: the set shows it.
+-- register r, which is held, given back is free, and the frame size stays. One that is free is held afterwards: the set shows it.
 unfoldable pub givenBack : RegisterSet → ℕ → RegisterSet
 givenBack s r = cond (ltb r 256) (record { words = putBack (s .words) r; «frame_size» = s .«frame_size» }) s
