@@ -2,7 +2,7 @@
 ghost use mathlib.Core.Path.{_≡_};
 ghost use mathlib.Core.Option.{none};
 ghost use Prim.Native.Nat.{_+_, _*_, _≤_};
-ghost use lib.ListN.{length, take};
+ghost use lib.ListN.{length, take, replicate};
 ghost use lib.Seq.{sets};
 ghost use Rattle.listing.specs.Text.{longestText};
 ghost use Rattle.listing.specs.Output.{longestListing, printTree, lowerlist};
@@ -79,14 +79,16 @@ const LISTING_BUFFER: usize = RESULT_LINE
 
 // Zeros, for a text. What is read into it prints what the whole text does, however long that is: a text is cut only behind the longest good one.
 pub fn text_buffer() -> [u8; TEXT_BUFFER]
-    ensures { λ r. ⌜ longestText + 1 ≡ length r ⌝ }
+    ensures length { λ r. ⌜ longestText + 1 ≡ length r ⌝ }
+    ensures zeros { λ r. ⌜ r ≡ replicate (longestText + 1) 0 ⌝ }
 {
     [0; TEXT_BUFFER]
 }
 
 // Zeros, for a listing: every listing has place.
 pub fn listing_buffer() -> [u8; LISTING_BUFFER]
-    ensures { λ r. ⌜ longestListing ≡ length r ⌝ }
+    ensures length { λ r. ⌜ longestListing ≡ length r ⌝ }
+    ensures zeros { λ r. ⌜ r ≡ replicate longestListing 0 ⌝ }
 {
     [0; LISTING_BUFFER]
 }

@@ -6,3 +6,4 @@ pub mod RoundTrip
 pub mod Only
 pub mod Program
 pub mod Page
+pub mod Refuted

@@ -12,6 +12,7 @@ use Rattle.words.specs.Words.{wordOf, words, tail, bytesOf}
 use Rattle.diagnostics.specs.declared.Refusal.{Refusal}
 use Rattle.diagnostics.specs.declared.Error.{Error}
 use Rattle.environment.specs.declared.Register.{Register}
+use Rattle.environment.specs.declared.RegisterSet.{RegisterSet}
 use Rattle.environment.specs.Laws.{Sound}
 use Rattle.environment.proofs.Laws.{gives, all-free}
 use Rattle.environment.specs.Bits.{bit, clear, flip}
@@ -31,6 +32,7 @@ use Rattle.lowering.specs.Steps.{withRegisters, freeHeld, placed, regist
 use Rattle.lowering.specs.Tree.{treeOf, node, present, entryNodes, children}
 use Rattle.lowering.specs.Walk.{Made, made, Outcome, ends, stops, Walk, bind, _>>_, unnamed, left}
 use Rattle.lowering.specs.Result.{Lowered, leaves, begin, lowerRoot, answered, lowerChecked, lower}
+use Rattle.lowering.specs.Frame.{Smallest}
 use Rattle.lowering.specs.Smallest.{beforeRegister, SmallestFirst}
 use Rattle.lowering.specs.Meaning.{Worth, worth, fails, undefined, Named, first, later, Reaches, here, below}
 use Rattle.lowering.specs.Machine.{recordIn, fetch, constantAt, constantOf, target, action, act, stepAt, step, after}
@@ -197,6 +199,10 @@ smallest-first-refuted jump f =
     let k = f 0 1 unmade (withRegisters (without allFree 1) unmade) refl in
     let same : held allFree 0 ≡ held (k .when .state .registers) 0 = ap (λ o. held (left o .state .registers) 0) (k .before) in
     false≢true (sym (all-free 0) ∙ same ∙ k .smallest .smaller-held 0 (omega arith))
+
+-- the same of a register that a run takes
+pub smallest-refuted : (s : RegisterSet) → Smallest unmade 1 s → ⊥
+smallest-refuted s k = false≢true (sym (all-free 0) ∙ k .smaller-held 0 (omega arith))
 
 -- ---- Pool: a constant is that of a node that the root reaches. Of x + y, whose nodes are names and an operator, nil is none.
 

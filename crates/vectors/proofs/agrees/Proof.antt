@@ -17,11 +17,11 @@ list-requires : tie.Need-list-requires
 list-requires c κs = search needs
 
 array-share-prefix-out : tie.Need-array-share-prefix-out
-array-share-prefix-out c = listing-room _ (c .before .list .ensures .1) (c .before .list .kept .1 .0 ∙ sym (c .before .before .before .listing-buffer .ensures))
+array-share-prefix-out c = listing-room _ (c .before .list .ensures .1) (c .before .list .kept .1 .0 ∙ sym (c .before .before .before .listing-buffer .ensures .0))
 
 slice-aggregate-same : tie.Need-slice-aggregate-same
 slice-aggregate-same c =
-    sym (length-take-le _ _ (listing-room _ (c .before .before .list .ensures .1) (c .before .before .list .kept .1 .0 ∙ sym (c .before .before .before .before .listing-buffer .ensures))))
+    sym (length-take-le _ _ (listing-room _ (c .before .before .list .ensures .1) (c .before .before .list .kept .1 .0 ∙ sym (c .before .before .before .before .listing-buffer .ensures .0))))
 
 same-requires : tie.Need-same-requires
 same-requires c κs = search needs
@@ -29,7 +29,7 @@ same-requires c κs = search needs
 returns : tie.Need-returns
 returns c =
     let listing = c .before .before .before .list .ensures in
-    let whole = listed _ _ (listing .1) (listing .0) (sym (c .before .before .before .before .before .listing-buffer .ensures)) in
+    let whole = listed _ _ (listing .1) (listing .0) (sym (c .before .before .before .before .before .listing-buffer .ensures .0)) in
     let told = rw whole at (c .same .ensures) in
     same-bytes _ _ _ (told .0) (told .1)
 
