@@ -4,6 +4,7 @@ use Prim.Native.Nat.{ℕ, zero, suc, _+_, _*_, _-_, _/_, _%_, _≤_, _<_}
 use native.Mathlib.Omega.{arith}
 use native.Mathlib.Nat.{lt-of-lt-of-le}
 use native.Mathlib.Decide.{decLt, ℕ-discrete}
+use lib.Dec.{eqb}
 use mathlib.Core.Path.{_≡_, refl, sym, ap, _∙_, subst}
 use mathlib.Core.Bool.{Bool, true, false, cond}
 use mathlib.Core.Option.{none, some}
@@ -16,7 +17,7 @@ use Rattle.words.specs.Words.{wordOf, words, tail, bytesOf}
 use Rattle.words.specs.Records.{putRecord}
 use Rattle.words.proofs.Words.{bytes-words}
 use Rattle.syntax.specs.declared.ast.Node.{Node}
-use Rattle.syntax.specs.Ast.{nodeWord, nodeAt, nodeKinds}
+use Rattle.syntax.specs.Ast.{nodeWord, nodeAt, nodeKinds, absent}
 use Rattle.runtime.specs.declared.instruction.Instruction.{Instruction}
 use Rattle.runtime.specs.declared.operand.Operand.{Operand}
 use Rattle.runtime.specs.Instruction.{wordsOf}
@@ -211,7 +212,7 @@ node-words : (nodes : List ℕ) → Words nodes → (i : ℕ) → Fine (nodeAt n
 unfolding constantOfNode nodeAt nodeWord
 node-words nodes h i =
     fine-at (nodeWord nodes i 1) (nodeWord nodes i 2) (nodeWord nodes i 3) nodeKinds
-    (fine-some (number-words _ _), (fine-some (string-words _ (h _)), (fine-some (boolean-words _), (fine-some nil-words, (fine-some (string-words _ (h _)), (fine-none, (fine-none, (fine-none, (fine-none, (fine-none, (fine-none, (fine-tail _, (fine-none, (fine-some (string-words _ (h _)), (fine-none, tt)))))))))))))))
+    (fine-some (number-words _ _), (fine-some (string-words _ (h _)), (fine-some (boolean-words _), (fine-some nil-words, (fine-some (string-words _ (h _)), (fine-none, (fine-none, (fine-none, (fine-none, (fine-none, (fine-none, (fine-tail (eqb (nodeWord nodes i 1) absent), (fine-none, (fine-some (string-words _ (h _)), (fine-none, tt)))))))))))))))
     (nodeWord nodes i 0)
 
 -- ---- a run
