@@ -68,7 +68,7 @@ fn held_below(arity: u32, first: u32) -> u64
     }
 }
 
-// The lowering calls nothing here that indexes a set's words by a variable, which would keep the set in memory.
+// Nothing that the lowering calls indexes a set's words by a variable: that would keep the set in memory.
 impl RegisterSet {
     // All 256 are free.
     pub fn new() -> RegisterSet
