@@ -3,6 +3,7 @@ pub mod Questions
 pub mod Checked
 pub mod Walk
 pub mod Steps
+pub mod Literals
 pub mod Operators
 pub mod Lower
 pub mod Result
