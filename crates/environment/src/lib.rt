@@ -8,7 +8,8 @@ ghost use Rattle.environment.specs.Registers.{allFree, smallestFree, tak
 ghost use Rattle.environment.specs.Environment.{allocated, freed, parameters, lookup};
 use diagnostics::Place;
 use diagnostics::Refusal;
-use words::word;
+use words::FULL;
+use words::last_position;
 
 // How many registers there are.
 const REGISTERS: u32 = 256;
@@ -237,12 +238,9 @@ impl RegisterSet {
 pub fn lookup(names: &[u8], arity: u32, name: u32) -> Found
     ensures { λ r. ⌜ r ≡ lookup (words (now (names .entry))) arity name ⌝ }
 {
-    let mut i = arity;
-    while 0 < i {
-        i -= 1;
-        if word(names, i as usize) == name {
-            return Found::At(Register::Local(i));
-        }
+    let i = last_position(names, arity, name);
+    if i == FULL {
+        return Found::Refused(Refusal::Undeclared);
     }
-    Found::Refused(Refusal::Undeclared)
+    Found::At(Register::Local(i))
 }

@@ -1,20 +1,22 @@
 // The parts of the lowering (kaori's codegen/lower_ast.rs) that are not the walk itself: jumps and arguments, patched in the code, and marks.
 ghost use mathlib.Core.Path.{_≡_};
+ghost use mathlib.Core.Bool.{cond};
 ghost use mathlib.Core.List.{List, _++_};
 ghost use Prim.Native.Nat.{ℕ};
+ghost use lib.Dec.{eqb};
 ghost use Rattle.words.specs.Words.{words, tail, bytesOf};
-ghost use Rattle.words.specs.Records.{buffer};
+ghost use Rattle.words.specs.Records.{appended, buffer};
 ghost use Rattle.lowering.specs.declared.State.{State};
 ghost use Rattle.lowering.specs.Walk.{made};
 ghost use Rattle.lowering.specs.Steps.{withOffset, patchArgument, patchMarks};
 ghost use Rattle.lowering.specs.Result.{canPatch, patchJump};
 ghost use Rattle.lower_ast.specs.Arguments.{markArgument, seenDone};
-use diagnostics::Place;
 use diagnostics::Refusal;
 use runtime::instruction::INSTRUCTION_WORDS;
 use runtime::instruction::has_destination;
 use runtime::instruction::offset_word;
-use words::Appended;
+use runtime::opcode;
+use words::FULL;
 use words::MAX_COUNT;
 use words::append;
 use words::capacity;
@@ -45,7 +47,11 @@ fn can_patch(code: &[u8], count: u32, index: u32) -> bool
     if index < count {
         if (count as usize) <= capacity(code, INSTRUCTION_WORDS) {
             let kind = word(code, INSTRUCTION_WORDS * (index as usize));
-            if 41 <= kind { kind <= 53 } else { false }
+            if opcode::JUMP <= kind {
+                kind <= opcode::JUMP_IF_NOT_EQUAL_K
+            } else {
+                false
+            }
         } else {
             false
         }
@@ -68,20 +74,17 @@ pub fn patch_jump(code: &mut [u8], count: u32, index: u32, offset: u32) -> u32
     }
 }
 
-// Marks the last of `instructions`, behind the first `count` marks.
-pub fn mark_argument(marks: &mut [u8], count: u32, instructions: u32) -> Appended
-    ensures words { λ r. ⌜ buffer (words (now (marks .exit))) r ≡ markArgument (words (now (marks .entry))) count instructions ⌝ }
+// Marks the last of `instructions`, behind the first `count` marks: the mark's place, or FULL, also where there is no instruction.
+pub fn mark_argument(marks: &mut [u8], count: u32, instructions: u32) -> u32
+    ensures words { λ r. ⌜ buffer (words (now (marks .exit))) (appended count r (cond (eqb instructions 0) Refusal.Unmarked Refusal.Marks))
+        ≡ markArgument (words (now (marks .entry))) count instructions ⌝ }
     ensures tail { λ r. ⌜ tail (now (marks .exit)) ≡ tail (now (marks .entry)) ⌝ }
 {
     if instructions == 0 {
-        Appended {
-            count,
-            place: Place::Refused(Refusal::Unmarked),
-        }
-    } else {
-        let item = [instructions - 1];
-        append(marks, count, MAX_COUNT, &item, Refusal::Marks)
+        return FULL;
     }
+    let item = [instructions - 1];
+    append(marks, count, MAX_COUNT, &item)
 }
 
 // Adds the frame size to the destination of the instruction at `place`.

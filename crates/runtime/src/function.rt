@@ -1,14 +1,12 @@
 // The function under construction (kaori's runtime/function.rs): code and constants as records in lent buffers, each with its count.
 ghost use mathlib.Core.Path.{_≡_};
+ghost use mathlib.Core.List.{[], _∷_};
+ghost use Rattle.diagnostics.specs.declared.Refusal.{Refusal};
 ghost use Rattle.words.specs.Words.{words, tail};
-ghost use Rattle.words.specs.Records.{buffer};
-ghost use Rattle.runtime.specs.Function.{emitInstruction, storeConstant};
-use crate::instruction::Instruction;
+ghost use Rattle.words.specs.Records.{append, appended, buffer};
+ghost use Rattle.runtime.specs.Function.{maxInstructions, storeConstant};
 use crate::operand::Operand;
 use crate::value::constant_words;
-use diagnostics::Place;
-use diagnostics::Refusal;
-use words::Appended;
 use words::MAX_COUNT;
 use words::append;
 use words::position;
@@ -16,42 +14,25 @@ use words::position;
 // The most instructions that are made.
 pub const MAX_INSTRUCTIONS: u32 = 1048576;
 
-// Puts an instruction behind the first `count` ones.
-pub fn emit_instruction(code: &mut [u8], count: u32, instruction: Instruction) -> Appended
-    ensures words { λ r. ⌜ buffer (words (now (code .exit))) r ≡ emitInstruction (words (now (code .entry))) count instruction ⌝ }
+// Puts the instruction with these words behind the first `count` ones: its place, or FULL.
+pub fn emit_instruction(code: &mut [u8], count: u32, opcode: u32, a: u32, b: u32, c: u32) -> u32
+    ensures words { λ r. ⌜ buffer (words (now (code .exit))) (appended count r Refusal.Code)
+        ≡ append (words (now (code .entry))) count maxInstructions (opcode ∷ a ∷ b ∷ c ∷ []) Refusal.Code ⌝ }
     ensures tail { λ r. ⌜ tail (now (code .exit)) ≡ tail (now (code .entry)) ⌝ }
 {
-    let words = instruction.words();
-    append(code, count, MAX_INSTRUCTIONS, &words, Refusal::Code)
+    let words = [opcode, a, b, c];
+    append(code, count, MAX_INSTRUCTIONS, &words)
 }
 
-// The place of the first of the first `count` constants that is this one; else it is put behind them.
-pub fn store_constant(constants: &mut [u8], count: u32, constant: Operand) -> Appended
-    ensures words { λ r. ⌜ buffer (words (now (constants .exit))) r ≡ storeConstant (words (now (constants .entry))) count constant ⌝ }
+// The place of the first of the first `count` constants that is this one; else it is put behind them: its place, or FULL.
+pub fn store_constant(constants: &mut [u8], count: u32, constant: Operand) -> u32
+    ensures words { λ r. ⌜ buffer (words (now (constants .exit))) (appended count r Refusal.Constants) ≡ storeConstant (words (now (constants .entry))) count constant ⌝ }
     ensures tail { λ r. ⌜ tail (now (constants .exit)) ≡ tail (now (constants .entry)) ⌝ }
 {
     let words = constant_words(constant);
     let place = position(constants, count, &words);
     if place < count {
-        Appended {
-            count: count,
-            place: Place::At(place),
-        }
-    } else {
-        append(constants, count, MAX_COUNT, &words, Refusal::Constants)
+        return place;
     }
-}
-
-pub fn store_string_const(constants: &mut [u8], count: u32, symbol: u32) -> Appended
-    ensures words { λ r. ⌜ buffer (words (now (constants .exit))) r ≡ storeConstant (words (now (constants .entry))) count (Operand.String symbol) ⌝ }
-    ensures tail { λ r. ⌜ tail (now (constants .exit)) ≡ tail (now (constants .entry)) ⌝ }
-{
-    store_constant(constants, count, Operand::String(symbol))
-}
-
-pub fn store_nil_const(constants: &mut [u8], count: u32) -> Appended
-    ensures words { λ r. ⌜ buffer (words (now (constants .exit))) r ≡ storeConstant (words (now (constants .entry))) count Operand.Nil ⌝ }
-    ensures tail { λ r. ⌜ tail (now (constants .exit)) ≡ tail (now (constants .entry)) ⌝ }
-{
-    store_constant(constants, count, Operand::Nil)
+    append(constants, count, MAX_COUNT, &words)
 }

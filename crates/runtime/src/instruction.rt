@@ -1,6 +1,7 @@
 // Instructions (kaori's runtime/instruction.rs): the 55 variants in order, fields in declared order.
 ghost use mathlib.Core.Path.{_≡_};
-ghost use Rattle.runtime.specs.Instruction.{wordsOf, hasDestination, offsetWord};
+ghost use Rattle.runtime.specs.Instruction.{hasDestination, offsetWord};
+use crate::opcode;
 use crate::operands::Const;
 use crate::operands::Reg;
 
@@ -271,94 +272,25 @@ pub enum Instruction {
     },
 }
 
-impl Instruction {
-    // The words of an instruction: its place in the order of the variants, then its fields.
-    pub fn words(self) -> [u32; INSTRUCTION_WORDS]
-        ensures { λ r. ⌜ r ≡ wordsOf self ⌝ }
-    {
-        match self {
-            Instruction::Add { dest, src1, src2 } => [0, dest, src1, src2],
-            Instruction::AddK { dest, src1, src2 } => [1, dest, src1, src2],
-            Instruction::Subtract { dest, src1, src2 } => [2, dest, src1, src2],
-            Instruction::SubtractRK { dest, src1, src2 } => [3, dest, src1, src2],
-            Instruction::SubtractKR { dest, src1, src2 } => [4, dest, src1, src2],
-            Instruction::Multiply { dest, src1, src2 } => [5, dest, src1, src2],
-            Instruction::MultiplyK { dest, src1, src2 } => [6, dest, src1, src2],
-            Instruction::Divide { dest, src1, src2 } => [7, dest, src1, src2],
-            Instruction::DivideRK { dest, src1, src2 } => [8, dest, src1, src2],
-            Instruction::DivideKR { dest, src1, src2 } => [9, dest, src1, src2],
-            Instruction::Modulo { dest, src1, src2 } => [10, dest, src1, src2],
-            Instruction::ModuloRK { dest, src1, src2 } => [11, dest, src1, src2],
-            Instruction::ModuloKR { dest, src1, src2 } => [12, dest, src1, src2],
-            Instruction::Equal { dest, src1, src2 } => [13, dest, src1, src2],
-            Instruction::EqualK { dest, src1, src2 } => [14, dest, src1, src2],
-            Instruction::NotEqual { dest, src1, src2 } => [15, dest, src1, src2],
-            Instruction::NotEqualK { dest, src1, src2 } => [16, dest, src1, src2],
-            Instruction::Less { dest, src1, src2 } => [17, dest, src1, src2],
-            Instruction::LessRK { dest, src1, src2 } => [18, dest, src1, src2],
-            Instruction::LessKR { dest, src1, src2 } => [19, dest, src1, src2],
-            Instruction::LessEqual { dest, src1, src2 } => [20, dest, src1, src2],
-            Instruction::LessEqualRK { dest, src1, src2 } => [21, dest, src1, src2],
-            Instruction::LessEqualKR { dest, src1, src2 } => [22, dest, src1, src2],
-            Instruction::Not { dest, src } => [23, dest, src, 0],
-            Instruction::Negate { dest, src } => [24, dest, src, 0],
-            Instruction::Move { dest, src } => [25, dest, src, 0],
-            Instruction::LoadConst { dest, src } => [26, dest, src, 0],
-            Instruction::CreateMap { dest } => [27, dest, 0, 0],
-            Instruction::SetProperty { object, key, value } => [28, object, key, value],
-            Instruction::SetPropertyRK { object, key, value } => [29, object, key, value],
-            Instruction::SetPropertyKR { object, key, value } => [30, object, key, value],
-            Instruction::SetPropertyKK { object, key, value } => [31, object, key, value],
-            Instruction::GetProperty { dest, object, key } => [32, dest, object, key],
-            Instruction::GetPropertyK { dest, object, key } => [33, dest, object, key],
-            Instruction::SetElement { object, key, value } => [34, object, key, value],
-            Instruction::CreateClosure {
-                dest,
-                captures,
-                src,
-            } => [35, dest, captures, src],
-            Instruction::CreateRef { dest, src } => [36, dest, src, 0],
-            Instruction::DerefSet { dest, src } => [37, dest, src, 0],
-            Instruction::Deref { dest, src } => [38, dest, src, 0],
-            Instruction::Call { dest, src, arity } => [39, dest, src, arity],
-            Instruction::Return { src } => [40, src, 0, 0],
-            Instruction::Jump { offset } => [41, offset, 0, 0],
-            Instruction::JumpIfFalse { src, offset } => [42, src, offset, 0],
-            Instruction::JumpIfTrue { src, offset } => [43, src, offset, 0],
-            Instruction::JumpIfLess { src1, src2, offset } => [44, src1, src2, offset],
-            Instruction::JumpIfLessRK { src1, src2, offset } => [45, src1, src2, offset],
-            Instruction::JumpIfLessKR { src2, src1, offset } => [46, src2, src1, offset],
-            Instruction::JumpIfLessEqual { src1, src2, offset } => [47, src1, src2, offset],
-            Instruction::JumpIfLessEqualRK { src1, src2, offset } => [48, src1, src2, offset],
-            Instruction::JumpIfLessEqualKR { src2, src1, offset } => [49, src2, src1, offset],
-            Instruction::JumpIfEqual { src1, src2, offset } => [50, src1, src2, offset],
-            Instruction::JumpIfEqualK { src1, src2, offset } => [51, src1, src2, offset],
-            Instruction::JumpIfNotEqual { src1, src2, offset } => [52, src1, src2, offset],
-            Instruction::JumpIfNotEqualK { src1, src2, offset } => [53, src1, src2, offset],
-            Instruction::CaptureValue { src } => [54, src, 0, 0],
-        }
-    }
-}
-
 // Whether `patch_arguments` lists a kind: its first field is then a destination.
 pub fn has_destination(kind: u32) -> bool
     ensures { λ r. ⌜ r ≡ hasDestination kind ⌝ }
 {
     // Add to CreateMap; GetProperty; CreateClosure and CreateRef; Deref and Call.
-    if kind < 28 {
+    if kind < opcode::SET_PROPERTY {
         true
-    } else if kind < 32 {
+    } else if kind < opcode::GET_PROPERTY {
         false
-    } else if kind < 33 {
+    } else if kind < opcode::GET_PROPERTY_K {
         true
-    } else if kind < 35 {
+    } else if kind < opcode::CREATE_CLOSURE {
         false
-    } else if kind < 37 {
+    } else if kind < opcode::DEREF_SET {
         true
-    } else if kind < 38 {
+    } else if kind < opcode::DEREF {
         false
     } else {
-        kind < 40
+        kind < opcode::RETURN
     }
 }
 
@@ -367,13 +299,13 @@ pub fn offset_word(kind: u32) -> usize
     ensures { λ r. ⌜ r ≡ offsetWord kind ⌝ }
 {
     // Jump; JumpIfFalse and JumpIfTrue; the ten fused jumps.
-    if kind < 41 {
+    if kind < opcode::JUMP {
         0
-    } else if kind < 42 {
+    } else if kind < opcode::JUMP_IF_FALSE {
         1
-    } else if kind < 44 {
+    } else if kind < opcode::JUMP_IF_LESS {
         2
-    } else if kind < 54 {
+    } else if kind < opcode::CAPTURE_VALUE {
         3
     } else {
         0

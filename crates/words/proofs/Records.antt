@@ -9,13 +9,14 @@ use native.Mathlib.Nat.{add-zero, mul-suc, mul-le-mul-left, mul-comm, le-div-iff
 use native.Mathlib.Decide.{decLt}
 use native.Mathlib.Numerals.{add-one}
 use lib.ListN.{length, getD, set, take, drop, length-set, drop-of-length-le}
-use lib.Seq.{set-comm, getD-set-same, ext-getD, sets, length-sets, sets-eq, take-set-le, drop-set-lt, set-out, drop-cons, getD-take, getD-drop, take-at, drop-at, length-take-le}
-use borrow.Author.Tests.{lt-ltb, le-ltb}
+use lib.Seq.{take-nil, set-comm, getD-set-same, ext-getD, sets, length-sets, sets-eq, take-set-le, drop-set-lt, set-out, drop-cons, getD-take, getD-drop, take-at, drop-at, length-take-le}
+use borrow.Author.Tests.{lt-ltb, le-ltb, eq-eqb, ne-eqb}
 use mathlib.Core.Bool.{Bool, cond, _&&_, true, false}
-use lib.Dec.{ltb}
+use lib.Dec.{ltb, eqb}
 use Rattle.diagnostics.specs.declared.Refusal.{Refusal}
 use Rattle.diagnostics.specs.declared.Place.{Place}
-use Rattle.words.specs.Records.{capacity, recordAt, putRecord, append, buffer}
+use Rattle.words.specs.declared.Appended.{Appended}
+use Rattle.words.specs.Records.{capacity, recordAt, putRecord, append, appended, full, buffer}
 
 -- a run of stores that starts past the end changes nothing
 pub sets-out : (l : List ℕ) (i : ℕ) (vs : List ℕ) → length l ≤ i → sets l i vs ≡ l
@@ -23,6 +24,12 @@ sets-out l i [] h = refl
 sets-out l i (v ∷ vs) h =
     let n : length (set l i v) ≤ suc i = omega (arith, length-set l i v) in
     sets-out (set l i v) (suc i) vs n ∙ set-out l i v h
+
+-- a run of stores that reaches the end is its part up to there
+pub sets-fitting : (l : List ℕ) (i n : ℕ) (vs : List ℕ) → length l ≤ i + n → sets l i (take n vs) ≡ sets l i vs
+sets-fitting l i n [] h = rw (take-nil n)
+sets-fitting l i zero (v ∷ vs) h = sym (sets-out l i (v ∷ vs) (omega arith))
+sets-fitting l i (suc n) (v ∷ vs) h = sets-fitting (set l i v) (suc i) n vs (omega (arith, length-set l i v))
 
 -- a run of stores, from index i + k on: one more, and none left
 module _ (l : List ℕ) (i k : ℕ) (vs : List ℕ) where
@@ -177,3 +184,26 @@ module _ (ws : List ℕ) (count limit : ℕ) (r : List ℕ) (refusal : Refusal) 
   pub append-limit : limit ≤ count → append ws count limit r refusal ≡ buffer ws (record { count = count; place = Place.Refused refusal })
   unfolding append
   append-limit h = rw (le-ltb count limit h)
+
+-- a place that is not the count counts nothing
+pub appended-kept : (count place : ℕ) (refusal : Refusal) → (place ≡ count → ⊥) → count ≡ appended count place refusal .count
+unfolding appended
+appended-kept count place refusal h = rw (ne-eqb place count h) (go (eqb place full))
+  where
+    go : (b : Bool) → count ≡ (cond {A = Appended} b (record { count = count; place = Place.Refused refusal }) (record { count = count; place = Place.At place })) .count
+    go true = refl
+    go false = refl
+
+-- an append's answer by one number: a new record, one that was found, or none
+module _ (count : ℕ) (refusal : Refusal) where
+  pub appended-new : count < full → appended count count refusal ≡ record { count = count + 1; place = Place.At count }
+  unfolding appended
+  appended-new h = rw (ne-eqb count full (λ e. absurd (omega arith)), eq-eqb count count refl)
+
+  pub appended-found : (place : ℕ) → place < count → place < full → appended count place refusal ≡ record { count = count; place = Place.At place }
+  unfolding appended
+  appended-found place l h = rw (ne-eqb place full (λ e. absurd (omega arith)), ne-eqb place count (λ e. absurd (omega arith)))
+
+  pub appended-full : appended count full refusal ≡ record { count = count; place = Place.Refused refusal }
+  unfolding appended
+  appended-full = refl

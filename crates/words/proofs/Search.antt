@@ -6,12 +6,12 @@ use Prim.Native.Nat.{ℕ, zero, suc, _+_, _*_, _-_, _≤_, _<_}
 use native.Mathlib.Omega.{arith}
 use native.Mathlib.Nat.{add-zero, sub-zero}
 use native.Mathlib.Numerals.{add-one}
-use native.Mathlib.Decide.{ℕ-discrete}
-use lib.ListN.{length, getD, take, drop, drop-of-length-le}
+use native.Mathlib.Decide.{ℕ-discrete, decLt}
+use lib.ListN.{length, getD, take, drop, drop-of-length-le, List·getD-eq-default}
 use lib.Seq.{drop-cons}
 use lib.Dec.{ltb, eqb}
 use borrow.Author.Tests.{eq-eqb, ne-eqb, lt-ltb, le-ltb, eqb-true, ltb-true}
-use Rattle.words.specs.Records.{capacity, recordAt, sameWords, isAt, positionFrom, position, First}
+use Rattle.words.specs.Records.{capacity, recordAt, sameWords, isAt, positionFrom, position, lastPosition, full, First}
 
 false≢true : false ≡ true → ⊥
 false≢true e = let z : _≡_ {A = ℕ} 0 1 = cc in omega arith
@@ -148,3 +148,34 @@ past-none ws r (suc n) p h = rw (le-ltb p (capacity (length r) ws) h) (past-none
 
 pub search-past : (ws r : List ℕ) (count p : ℕ) {q : ℕ} → positionFrom ws r (count - p) p ≡ q → p < count → capacity (length r) ws ≤ p → count ≡ q
 search-past ws r count p i l h = let e : p + (count - p) ≡ count = omega arith in sym e ∙ sym (past-none ws r (count - p) p h) ∙ i
+
+-- the search from the end: the word is found, the search goes on, and it ends
+module _ (ws : List ℕ) (x i : ℕ) {q : ℕ} (e : lastPosition ws i x ≡ q) where
+  pub last-found : 0 < i → getD ws (i - 1) 0 ≡ x → i - 1 ≡ q
+  unfolding lastPosition
+  last-found h t = let n : i ≡ suc (i - 1) = omega arith in rw (eq-eqb _ _ t) at (rw n at e)
+
+  pub last-more : 0 < i → (getD ws (i - 1) 0 ≡ x → ⊥) → lastPosition ws (i - 1) x ≡ q
+  unfolding lastPosition
+  last-more h t = let n : i ≡ suc (i - 1) = omega arith in rw (ne-eqb _ _ t) at (rw n at e)
+
+  pub last-end : i ≡ 0 → full ≡ q
+  unfolding lastPosition
+  last-end z = rw z at e
+
+-- past the last word all are 0
+pub last-zero : (ws : List ℕ) (n : ℕ) → length ws < n → n - 1 ≡ lastPosition ws n 0
+last-zero ws n h = last-found ws 0 n refl (omega arith) (List·getD-eq-default ws 0 (omega arith))
+
+-- and none is another
+pub last-past : (ws : List ℕ) (x i n : ℕ) → (x ≡ 0 → ⊥) → length ws ≤ i → i ≤ n → lastPosition ws i x ≡ lastPosition ws n x
+unfolding lastPosition
+last-past ws x i zero o h l = let e : i ≡ 0 = omega arith in rw e
+last-past ws x i (suc n) o h l = go (decLt n i) (last-past ws x i n o h)
+  where
+    go : Dec (n < i) → (i ≤ n → lastPosition ws i x ≡ lastPosition ws n x) → lastPosition ws i x ≡ lastPosition ws (suc n) x
+    go (yes b) ih = let e : i ≡ suc n = omega arith in rw e
+    go (no b) ih =
+        let below : i ≤ n = omega arith in
+        let past : length ws ≤ n = omega arith in
+        ih below ∙ rw (List·getD-eq-default ws 0 past, ne-eqb 0 x (λ e. o (sym e)))

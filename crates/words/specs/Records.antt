@@ -5,7 +5,7 @@ use mathlib.Core.Path.{_≡_}
 use mathlib.Core.List.{List, [], _∷_}
 use mathlib.Core.Bool.{Bool, true, false, cond, _&&_}
 use lib.Dec.{ltb, eqb}
-use lib.ListN.{length, take, drop}
+use lib.ListN.{length, getD, take, drop}
 use lib.Seq.{sets}
 use Rattle.diagnostics.specs.declared.Refusal.{Refusal}
 use Rattle.diagnostics.specs.declared.Place.{Place}
@@ -42,6 +42,15 @@ positionFrom ws r (suc n) p = cond (isAt ws r p) p (positionFrom ws r n (suc p))
 unfoldable pub position : List ℕ → List ℕ → ℕ → ℕ
 position ws r count = positionFrom ws r count 0
 
+-- in place of a place: there was no room
+abbrev pub full : ℕ
+full = 4294967295
+
+-- the place of the last of the first n words that is x, or `full`
+unfoldable pub lastPosition : List ℕ → ℕ → ℕ → ℕ
+lastPosition ws zero x = full
+lastPosition ws (suc n) x = cond (eqb (getD ws n 0) x) n (lastPosition ws n x)
+
 -- the most records that a count of 32 bits can say
 abbrev pub maxCount : ℕ
 maxCount = 4294967295
@@ -53,6 +62,13 @@ pub record Buffer : Type 0 where
 
 abbrev pub buffer : List ℕ → Appended → Buffer
 buffer ws a = record { words = ws; answer = a }
+
+-- an append's answer by one number: the place, or `full`; a record that was found, at a smaller place, is not counted
+unfoldable pub appended : ℕ → ℕ → Refusal → Appended
+appended count place refusal =
+    cond (eqb place full)
+    (record { count = count; place = Place.Refused refusal })
+    (record { count = cond (eqb place count) (count + 1) count; place = Place.At place })
 
 -- a record put behind the first `count` ones, "with fewer than" `limit` "made" and "place for the next"; else the buffer as it was, and the refusal
 unfoldable pub append : List ℕ → ℕ → ℕ → List ℕ → Refusal → Buffer

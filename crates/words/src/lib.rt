@@ -4,9 +4,9 @@ ghost use Prim.Native.Nat.{_+_, _<_, _≤_};
 ghost use lib.ListN.{length, getD, set, take, drop};
 ghost use lib.Seq.{sets};
 ghost use Rattle.words.specs.Words.{words, tail};
-ghost use Rattle.words.specs.Records.{capacity, sameWords, position, append, buffer};
+ghost use Rattle.words.specs.Records.{capacity, sameWords, position, lastPosition, append, appended, buffer};
+ghost use Rattle.diagnostics.specs.declared.Refusal.{Refusal};
 use diagnostics::Place;
-use diagnostics::Refusal;
 
 // How many records a buffer holds after an append, and the place of the new one or why there is none.
 pub struct Appended {
@@ -16,6 +16,9 @@ pub struct Appended {
 
 // The most records that a count of 32 bits can say.
 pub const MAX_COUNT: u32 = 4294967295;
+
+// In place of a place: there was no room. No buffer holds so many records.
+pub const FULL: u32 = 4294967295;
 
 fn wide(x: u8) -> u32
     ensures { λ r. ⌜ (r ≡ x) × (r < 256) ⌝ }
@@ -41,29 +44,53 @@ pub fn word(s: &[u8], i: usize) -> u32
     if i < s.len() / 4 { whole_word(s, i) } else { 0 }
 }
 
+// Makes the word at i, which is one of the whole words, x.
+fn put_whole(s: &mut [u8], i: usize, x: u32)
+    requires { ⌜ i < length (words (now s)) ⌝ }
+    ensures words { λ _. ⌜ words (now (s .exit)) ≡ set (words (now (s .entry))) i x ⌝ }
+    ensures tail { λ _. ⌜ tail (now (s .exit)) ≡ tail (now (s .entry)) ⌝ }
+{
+    s[4 * i] = (x % 256) as u8;
+    s[4 * i + 1] = (x / 256 % 256) as u8;
+    s[4 * i + 2] = (x / 65536 % 256) as u8;
+    s[4 * i + 3] = (x / 16777216) as u8;
+}
+
 // Makes the word at i x; past the last whole word nothing changes.
 pub fn put_word(s: &mut [u8], i: usize, x: u32)
     ensures words { λ _. ⌜ words (now (s .exit)) ≡ set (words (now (s .entry))) i x ⌝ }
     ensures tail { λ _. ⌜ tail (now (s .exit)) ≡ tail (now (s .entry)) ⌝ }
 {
     if i < s.len() / 4 {
-        s[4 * i] = (x % 256) as u8;
-        s[4 * i + 1] = (x / 256 % 256) as u8;
-        s[4 * i + 2] = (x / 65536 % 256) as u8;
-        s[4 * i + 3] = (x / 16777216) as u8;
+        put_whole(s, i, x);
     }
 }
 
-// Makes the words from `at` on those of `xs`, one after the other; past the last whole word nothing changes.
+// Makes the words from `at` on, which are whole, those of `xs`, one after the other.
+fn put_record(s: &mut [u8], at: usize, xs: &[u32])
+    requires { ⌜ at + length (now xs) ≤ length (words (now s)) ⌝ }
+    ensures words { λ _. ⌜ words (now (s .exit)) ≡ sets (words (now (s .entry))) at (now (xs .entry)) ⌝ }
+    ensures tail { λ _. ⌜ tail (now (s .exit)) ≡ tail (now (s .entry)) ⌝ }
+{
+    let mut k = 0;
+    while k < xs.len() {
+        put_whole(s, at + k, xs[k]);
+        k += 1;
+    }
+}
+
+// Makes the words from `at` on those of `xs`; past the last whole word nothing changes.
 pub fn put_words(s: &mut [u8], at: usize, xs: &[u32])
     ensures words { λ _. ⌜ words (now (s .exit)) ≡ sets (words (now (s .entry))) at (now (xs .entry)) ⌝ }
     ensures tail { λ _. ⌜ tail (now (s .exit)) ≡ tail (now (s .entry)) ⌝ }
 {
-    if at <= s.len() {
-        let mut k = 0;
-        while k < xs.len() {
-            put_word(s, at + k, xs[k]);
-            k += 1;
+    let end = s.len() / 4;
+    if at <= end {
+        let room = end - at;
+        if room < xs.len() {
+            put_record(s, at, &xs[..room]);
+        } else {
+            put_record(s, at, xs);
         }
     }
 }
@@ -75,26 +102,32 @@ pub fn capacity(s: &[u8], width: usize) -> usize
     if width == 0 { 0 } else { s.len() / 4 / width }
 }
 
-// Puts a record behind the first `count` ones, where fewer than `limit` are made and the buffer has place for it.
-pub fn append(s: &mut [u8], count: u32, limit: u32, item: &[u32], refusal: Refusal) -> Appended
-    ensures words { λ r. ⌜ buffer (words (now (s .exit))) r ≡ append (words (now (s .entry))) count limit (now (item .entry)) refusal ⌝ }
+// Puts a record behind the first `count` ones, where fewer than `limit` are made and the buffer has place for it: its place, or FULL.
+pub fn append(s: &mut [u8], count: u32, limit: u32, item: &[u32]) -> u32
+    ensures words { λ r. ⌜ ((refusal : Refusal) → buffer (words (now (s .exit))) (appended count r refusal) ≡ append (words (now (s .entry))) count limit (now (item .entry)) refusal) ⌝ }
     ensures tail { λ r. ⌜ tail (now (s .exit)) ≡ tail (now (s .entry)) ⌝ }
 {
     let width = item.len();
     let at = count as usize;
     if count < limit {
         if at < capacity(s, width) {
-            put_words(s, width * at, item);
-            return Appended {
-                count: count + 1,
-                place: Place::At(count),
-            };
+            put_record(s, width * at, item);
+            return count;
         }
     }
-    Appended {
-        count: count,
-        place: Place::Refused(refusal),
+    FULL
+}
+
+// How many records there are once one is at `place`: a new one counts, one that was found does not.
+pub fn counted(count: u32, place: u32) -> u32
+    ensures { λ r. ⌜ ((refusal : Refusal) → r ≡ appended count place refusal .count) ⌝ }
+{
+    if place == count {
+        if place < FULL {
+            return count + 1;
+        }
     }
+    count
 }
 
 // Whether the words from `at` on are those of `item`. Constants differ in their last word more often than in their first, which is their kind.
@@ -118,16 +151,38 @@ pub fn position(s: &[u8], count: u32, item: &[u32]) -> u32
 {
     let width = item.len();
     let records = capacity(s, width);
+    let end = if records < (count as usize) {
+        records as u32
+    } else {
+        count
+    };
     let mut p: u32 = 0;
-    while p < count {
-        let at = p as usize;
-        if records <= at {
-            return count;
-        }
-        if same_words(s, width * at, item) {
+    while p < end {
+        if same_words(s, width * (p as usize), item) {
             return p;
         }
         p += 1;
     }
     count
+}
+
+// The place of the last of the first `count` words that is x, or FULL. Words past the last whole one are 0.
+pub fn last_position(s: &[u8], count: u32, x: u32) -> u32
+    ensures { λ r. ⌜ r ≡ lastPosition (words (now (s .entry))) count x ⌝ }
+{
+    let words = s.len() / 4;
+    let mut i = count as usize;
+    if words < i {
+        if x == 0 {
+            return count - 1;
+        }
+        i = words;
+    }
+    while 0 < i {
+        i -= 1;
+        if whole_word(s, i) == x {
+            return i as u32;
+        }
+    }
+    FULL
 }

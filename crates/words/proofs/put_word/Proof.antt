@@ -1,84 +1,21 @@
--- `words::put_word` meets its contract: four stores make one word, and the bytes past the last whole word are not reached. Assumes nothing.
-use lib.ListN.{length-set}
+-- `words::put_word` meets its contract: a whole word is put, and past the last nothing changes. Assumes nothing.
 use native.Mathlib.Omega.{arith}
-use Rattle.words.proofs.Words.{put-in, put-out}
+use Rattle.words.proofs.Words.{length-words, put-out}
 use borrow.Author.Needs.{needs}
 use Rattle.words.proofs.put_word.Statement.{statement}
 use Rattle.words.proofs.put_word.Tie as tie
 
-cast-s : tie.Need-cast-s
-cast-s c = search needs
-
-mul-s : tie.Need-mul-s
-mul-s c = search needs
-
-slice-write-s : tie.Need-slice-write-s
-slice-write-s c = search needs
-
-cast-s-2 : tie.Need-cast-s-2
-cast-s-2 c = search needs
-
-mul-s-2 : tie.Need-mul-s-2
-mul-s-2 c = search needs
-
-add-s : tie.Need-add-s
-add-s c = search needs
-
-slice-write-s-2 : tie.Need-slice-write-s-2
-slice-write-s-2 c = simp length-set (omega arith)
-
-cast-s-3 : tie.Need-cast-s-3
-cast-s-3 c = search needs
-
-mul-s-3 : tie.Need-mul-s-3
-mul-s-3 c = search needs
-
-add-s-2 : tie.Need-add-s-2
-add-s-2 c = search needs
-
-slice-write-s-3 : tie.Need-slice-write-s-3
-slice-write-s-3 c = simp length-set (omega arith)
-
-cast-s-4 : tie.Need-cast-s-4
-cast-s-4 c = search needs
-
-mul-s-4 : tie.Need-mul-s-4
-mul-s-4 c = search needs
-
-add-s-3 : tie.Need-add-s-3
-add-s-3 c = search needs
-
-slice-write-s-4 : tie.Need-slice-write-s-4
-slice-write-s-4 c = simp length-set (omega arith)
+put-whole-requires : tie.Need-put-whole-requires
+put-whole-requires c κs = omega (arith, length-words (c .before .before .before .args .s .now))
 
 same-length : tie.Need-same-length
 same-length c = search needs
 
 returns : tie.Need-returns
-returns c = put-in _ _ _ (omega arith) (omega arith)
+returns c = search needs
 
 returns-2 : tie.Need-returns-2
 returns-2 c = put-out _ _ _ (omega arith)
 
 pub put-word-spec : {M : Type 1} → statement M
-put-word-spec =
-    tie.close
-    (tie.spec
-    cast-s
-    mul-s
-    slice-write-s
-    cast-s-2
-    mul-s-2
-    add-s
-    slice-write-s-2
-    cast-s-3
-    mul-s-3
-    add-s-2
-    slice-write-s-3
-    cast-s-4
-    mul-s-4
-    add-s-3
-    slice-write-s-4
-    same-length
-    returns
-    returns-2)
+put-word-spec = tie.close (tie.spec put-whole-requires same-length returns returns-2)

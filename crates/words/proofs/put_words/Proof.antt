@@ -1,86 +1,54 @@
--- `words::put_words` meets its contract. The invariant: what the rest of `xs` makes of the slice is what all of `xs` makes of it at entry.
--- The measure is what is left of `xs`. Assumes nothing.
-use mathlib.Core.Path.{_≡_, refl, sym, _∙_}
-use Prim.Native.Nat.{_+_, _-_, _≤_}
-use lib.ListN.{length, drop}
-use lib.Seq.{sets}
-use native.Mathlib.Nat.{add-zero}
+-- `words::put_words` meets its contract: what fits is put, and the rest changes nothing. Assumes nothing.
+use mathlib.Core.Path.{refl, sym, _∙_}
+use Prim.Native.Nat.{_-_, _/_}
+use lib.ListN.{length, length-take}
+use lib.Seq.{length-take-le}
 use native.Mathlib.Omega.{arith}
-use borrow.Author.Needs.{needs}
-use Rattle.words.specs.Words.{words, tail}
+use Rattle.words.specs.Words.{words}
 use Rattle.words.proofs.Words.{length-words}
-use Rattle.words.proofs.Records.{sets-out, sets-more, sets-end}
+use Rattle.words.proofs.Records.{sets-out, sets-fitting}
+use borrow.Author.Needs.{needs}
 use Rattle.words.proofs.put_words.Statement.{statement}
 use Rattle.words.proofs.put_words.Tie as tie
-use Rattle.words.proofs.put_words.Reads as reads
-use Rattle.words.proofs.put_words.Lts as lts
-use Rattle.words.proofs.put_word.Reads as put-word-reads
 
-abbrev Inv-loop : tie.InvT-loop
-Inv-loop s₀ at xs k₀ s k =
-    (at ≤ length s₀) × (length s ≡ length s₀) × (k ≤ length xs) × (sets (words s) (at + k) (drop k xs) ≡ sets (words s₀) at xs) × (tail s ≡ tail s₀)
+slice-aggregate-put-record : tie.Need-slice-aggregate-put-record
+slice-aggregate-put-record c = let a = c .before .before .before .before .before .before .args in sym (length-take-le (length (a .s .now) / 4 - a .at) (a .xs .now) (omega arith))
 
-abbrev μ-loop : tie.MeasureT-loop
-μ-loop s₀ at xs k₀ s k = length xs - k
+put-record-requires : tie.Need-put-record-requires
+put-record-requires c κs = simp length-take (omega (arith, length-words (c .before .before .before .before .before .before .args .s .now)))
 
-loop-holds : tie.Need-loop-holds Inv-loop μ-loop
-loop-holds c = (omega arith, refl, omega arith, rw add-zero, refl)
+put-record-requires-2 : tie.Need-put-record-requires-2
+put-record-requires-2 c κs = omega (arith, length-words (c .before .before .before .before .before .args .s .now))
 
-add-put-word : tie.Need-add-put-word Inv-loop μ-loop
-add-put-word c = search needs
+same-length : tie.Need-same-length
+same-length c = search needs
 
-mul-put-word : tie.Need-mul-put-word Inv-loop μ-loop
-mul-put-word c = search needs
+returns : tie.Need-returns
+returns c =
+    let a = c .before .before .before .before .before .before .before .before .before .args in
+    let put = c .before .before .put-record in
+    (put .ensures .0 ∙ sets-fitting (words (a .s .now)) (a .at) (length (a .s .now) / 4 - a .at) (a .xs .now) (omega (arith, length-words (a .s .now))), put .ensures .1)
 
-shared-slice-read-put-word : tie.Need-shared-slice-read-put-word Inv-loop μ-loop
-shared-slice-read-put-word c = search needs
+same-length-2 : tie.Need-same-length-2
+same-length-2 c = search needs
 
-put-word-requires : tie.Need-put-word-requires Inv-loop μ-loop
-put-word-requires c κs = search needs
+returns-2 : tie.Need-returns-2
+returns-2 c = search needs
 
-add-k : tie.Need-add-k Inv-loop μ-loop
-add-k c = search needs
-
-loop-less : tie.Need-loop-less Inv-loop μ-loop
-loop-less c = omega arith
-
-loop-again : tie.Need-loop-again Inv-loop μ-loop
-loop-again c =
-    let inv = c .before .before .before .before .before .before .loop .inv in
-    let put = c .before .before .put-word in (
-      inv .0,
-      omega (arith, put .kept .0),
-      omega arith,
-      rw (put .ensures .0) (sym (sets-more _ _ _ _ (c .before .before .before .before .before .loop-test .taken)) ∙ inv .3),
-      put .ensures .1 ∙ inv .4,
-    )
-
-same-length : tie.Need-same-length Inv-loop μ-loop
-same-length c = c .before .loop .inv .1
-
-returns : tie.Need-returns Inv-loop μ-loop
-returns c = (sym (sets-end _ _ _ _ (c .loop-test .left)) ∙ c .before .loop .inv .3, c .before .loop .inv .4)
-
-returns-2 : tie.Need-returns-2 Inv-loop μ-loop
-returns-2 c =
-    let s = c .before .before .before .args .s .now in
-    let out : length (words s) ≤ c .before .before .before .args .at = omega (arith, length-words s) in
-    (sym (sets-out (words s) _ (c .before .before .before .args .xs .now) out), refl)
+returns-3 : tie.Need-returns-3
+returns-3 c =
+    let a = c .before .before .before .args in
+    (sym (sets-out (words (a .s .now)) (a .at) (a .xs .now) (omega (arith, length-words (a .s .now)))), refl)
 
 pub put-words-spec : {M : Type 1} → statement M
 put-words-spec =
     tie.close
     (tie.spec
-    Inv-loop
-    μ-loop
-    loop-holds
-    add-put-word
-    mul-put-word
-    shared-slice-read-put-word
-    put-word-requires
-    add-k
-    loop-less
-    loop-again
+    slice-aggregate-put-record
+    put-record-requires
+    put-record-requires-2
     same-length
     returns
-    returns-2)
+    same-length-2
+    returns-2
+    returns-3)
