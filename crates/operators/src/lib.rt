@@ -1,295 +1,203 @@
-// The instruction of an operator, by where its operands are: two registers (rr), a register and a constant (rk), a constant and a register (kr).
-// The arms stand in the order of kaori's lower_expression.rs and lower_ast.rs.
+// The opcode of an operator, by where its operands are: two registers (rr), a register and a constant (rk), a constant and a register (kr); and
+// whether its operands change places. "Greater swaps operands, not their evaluation. A constant on the left of add, multiply, equal, not-equal
+// goes right." The arms stand in the order of kaori's lower_expression.rs and lower_ast.rs.
+ghost use Prim.Native.Nat.{ℕ};
 ghost use mathlib.Core.Path.{_≡_};
+ghost use mathlib.Core.List.{[], _∷_};
+ghost use mathlib.Core.Option.{some};
+ghost use Rattle.syntax.specs.declared.ops.Comparison.{Comparison};
+ghost use Rattle.syntax.specs.Ops.{binaryOp, unaryOp};
+ghost use Rattle.runtime.specs.Instruction.{wordsOf};
 ghost use Rattle.lowering.specs.Operators.{binaryRR, binaryRK, binaryKR, unary, comparison, jumpRR, jumpRK, jumpKR, jumpIf};
-ghost use Rattle.operators.specs.Compared.{compared};
-use runtime::instruction::Instruction;
-use runtime::operands::Const;
-use runtime::operands::Reg;
-use syntax::ops::BinaryOp;
-use syntax::ops::Comparison;
-use syntax::ops::UnaryOp;
-
-// The comparison that an operator is, if it is one.
-pub enum Compared {
-    By(Comparison),
-    Nothing,
-}
+ghost use Rattle.operators.specs.Opcodes.{swaps, swapsKR, jumpSwaps, first, second, compares};
+use runtime::opcode;
+use syntax::operator;
 
 // Greater swaps the operands.
-pub fn binary_rr(operator: BinaryOp, dest: Reg, src1: Reg, src2: Reg) -> Instruction
-    ensures { λ r. ⌜ r ≡ binaryRR operator dest src1 src2 ⌝ }
+pub fn binary_rr(operator: u32) -> u32
+    ensures { λ r. ⌜ ((d a b : ℕ) → wordsOf (binaryRR (binaryOp operator) d a b)
+        ≡ r ∷ d ∷ first (swaps (binaryOp operator)) a b ∷ second (swaps (binaryOp operator)) a b ∷ []) ⌝ }
 {
     match operator {
-        BinaryOp::Add => Instruction::Add { dest, src1, src2 },
-        BinaryOp::Subtract => Instruction::Subtract { dest, src1, src2 },
-        BinaryOp::Multiply => Instruction::Multiply { dest, src1, src2 },
-        BinaryOp::Divide => Instruction::Divide { dest, src1, src2 },
-        BinaryOp::Modulo => Instruction::Modulo { dest, src1, src2 },
-        BinaryOp::Equal => Instruction::Equal { dest, src1, src2 },
-        BinaryOp::NotEqual => Instruction::NotEqual { dest, src1, src2 },
-        BinaryOp::Less => Instruction::Less { dest, src1, src2 },
-        BinaryOp::LessEqual => Instruction::LessEqual { dest, src1, src2 },
-        BinaryOp::Greater => Instruction::Less {
-            dest,
-            src1: src2,
-            src2: src1,
-        },
-        BinaryOp::GreaterEqual => Instruction::LessEqual {
-            dest,
-            src1: src2,
-            src2: src1,
-        },
+        operator::ADD => opcode::ADD,
+        operator::SUBTRACT => opcode::SUBTRACT,
+        operator::MULTIPLY => opcode::MULTIPLY,
+        operator::DIVIDE => opcode::DIVIDE,
+        operator::MODULO => opcode::MODULO,
+        operator::EQUAL => opcode::EQUAL,
+        operator::NOT_EQUAL => opcode::NOT_EQUAL,
+        operator::LESS | operator::GREATER => opcode::LESS,
+        _ => opcode::LESS_EQUAL,
     }
 }
 
 // Greater swaps the operands: the constant comes first.
-pub fn binary_rk(operator: BinaryOp, dest: Reg, src1: Reg, src2: Const) -> Instruction
-    ensures { λ r. ⌜ r ≡ binaryRK operator dest src1 src2 ⌝ }
+pub fn binary_rk(operator: u32) -> u32
+    ensures { λ r. ⌜ ((d a k : ℕ) → wordsOf (binaryRK (binaryOp operator) d a k)
+        ≡ r ∷ d ∷ first (swaps (binaryOp operator)) a k ∷ second (swaps (binaryOp operator)) a k ∷ []) ⌝ }
 {
     match operator {
-        BinaryOp::Add => Instruction::AddK { dest, src1, src2 },
-        BinaryOp::Subtract => Instruction::SubtractRK { dest, src1, src2 },
-        BinaryOp::Multiply => Instruction::MultiplyK { dest, src1, src2 },
-        BinaryOp::Divide => Instruction::DivideRK { dest, src1, src2 },
-        BinaryOp::Modulo => Instruction::ModuloRK { dest, src1, src2 },
-        BinaryOp::Equal => Instruction::EqualK { dest, src1, src2 },
-        BinaryOp::NotEqual => Instruction::NotEqualK { dest, src1, src2 },
-        BinaryOp::Less => Instruction::LessRK { dest, src1, src2 },
-        BinaryOp::LessEqual => Instruction::LessEqualRK { dest, src1, src2 },
-        BinaryOp::Greater => Instruction::LessKR {
-            dest,
-            src1: src2,
-            src2: src1,
-        },
-        BinaryOp::GreaterEqual => Instruction::LessEqualKR {
-            dest,
-            src1: src2,
-            src2: src1,
-        },
+        operator::ADD => opcode::ADD_K,
+        operator::SUBTRACT => opcode::SUBTRACT_RK,
+        operator::MULTIPLY => opcode::MULTIPLY_K,
+        operator::DIVIDE => opcode::DIVIDE_RK,
+        operator::MODULO => opcode::MODULO_RK,
+        operator::EQUAL => opcode::EQUAL_K,
+        operator::NOT_EQUAL => opcode::NOT_EQUAL_K,
+        operator::LESS => opcode::LESS_RK,
+        operator::GREATER => opcode::LESS_KR,
+        operator::GREATER_EQUAL => opcode::LESS_EQUAL_KR,
+        _ => opcode::LESS_EQUAL_RK,
     }
 }
 
-// Add, multiply, equal and not-equal take their constant on the right.
-pub fn binary_kr(operator: BinaryOp, dest: Reg, src1: Const, src2: Reg) -> Instruction
-    ensures { λ r. ⌜ r ≡ binaryKR operator dest src1 src2 ⌝ }
+// A constant on the left of add, multiply, equal, not-equal goes right.
+pub fn binary_kr(operator: u32) -> u32
+    ensures { λ r. ⌜ ((d k b : ℕ) → wordsOf (binaryKR (binaryOp operator) d k b)
+        ≡ r ∷ d ∷ first (swapsKR (binaryOp operator)) k b ∷ second (swapsKR (binaryOp operator)) k b ∷ []) ⌝ }
 {
     match operator {
-        BinaryOp::Add => Instruction::AddK {
-            dest,
-            src1: src2,
-            src2: src1,
-        },
-        BinaryOp::Multiply => Instruction::MultiplyK {
-            dest,
-            src1: src2,
-            src2: src1,
-        },
-        BinaryOp::Equal => Instruction::EqualK {
-            dest,
-            src1: src2,
-            src2: src1,
-        },
-        BinaryOp::NotEqual => Instruction::NotEqualK {
-            dest,
-            src1: src2,
-            src2: src1,
-        },
-        BinaryOp::Subtract => Instruction::SubtractKR { dest, src1, src2 },
-        BinaryOp::Divide => Instruction::DivideKR { dest, src1, src2 },
-        BinaryOp::Modulo => Instruction::ModuloKR { dest, src1, src2 },
-        BinaryOp::Less => Instruction::LessKR { dest, src1, src2 },
-        BinaryOp::LessEqual => Instruction::LessEqualKR { dest, src1, src2 },
-        BinaryOp::Greater => Instruction::LessRK {
-            dest,
-            src1: src2,
-            src2: src1,
-        },
-        BinaryOp::GreaterEqual => Instruction::LessEqualRK {
-            dest,
-            src1: src2,
-            src2: src1,
-        },
+        operator::ADD => opcode::ADD_K,
+        operator::MULTIPLY => opcode::MULTIPLY_K,
+        operator::EQUAL => opcode::EQUAL_K,
+        operator::NOT_EQUAL => opcode::NOT_EQUAL_K,
+        operator::SUBTRACT => opcode::SUBTRACT_KR,
+        operator::DIVIDE => opcode::DIVIDE_KR,
+        operator::MODULO => opcode::MODULO_KR,
+        operator::LESS => opcode::LESS_KR,
+        operator::GREATER => opcode::LESS_RK,
+        operator::GREATER_EQUAL => opcode::LESS_EQUAL_RK,
+        _ => opcode::LESS_EQUAL_KR,
     }
 }
 
-pub fn unary(operator: UnaryOp, dest: Reg, src: Reg) -> Instruction
-    ensures { λ r. ⌜ r ≡ unary operator dest src ⌝ }
+// Whether the operands of binary_rr and binary_rk change places.
+pub fn swaps(operator: u32) -> bool
+    ensures { λ r. ⌜ r ≡ swaps (binaryOp operator) ⌝ }
+{
+    (operator == operator::GREATER) | (operator == operator::GREATER_EQUAL)
+}
+
+// Whether those of binary_kr do.
+pub fn swaps_kr(operator: u32) -> bool
+    ensures { λ r. ⌜ r ≡ swapsKR (binaryOp operator) ⌝ }
 {
     match operator {
-        UnaryOp::Negate => Instruction::Negate { dest, src },
-        UnaryOp::Deref => Instruction::Deref { dest, src },
+        operator::ADD | operator::MULTIPLY => true,
+        operator::EQUAL | operator::NOT_EQUAL => true,
+        operator::GREATER | operator::GREATER_EQUAL => true,
+        _ => false,
+    }
+}
+
+// The opcode of a unary operator.
+pub fn unary(operator: u32) -> u32
+    ensures { λ r. ⌜ ((d a : ℕ) → wordsOf (unary (unaryOp operator) d a) ≡ r ∷ d ∷ a ∷ 0 ∷ []) ⌝ }
+{
+    if operator == operator::NEGATE {
+        opcode::NEGATE
+    } else {
+        opcode::DEREF
     }
 }
 
 // Six of the operators compare.
-pub fn comparison(operator: BinaryOp) -> Compared
-    ensures { λ r. ⌜ compared r ≡ comparison operator ⌝ }
+pub fn is_comparison(operator: u32) -> bool
+    ensures { λ r. ⌜ r ≡ compares (binaryOp operator) ⌝ }
+{
+    operator::EQUAL <= operator
+}
+
+// The jump that is taken where the comparison gives `sense`.
+pub fn jump_rr(sense: bool, operator: u32) -> u32
+    ensures { λ r. ⌜ ((c : Comparison) → comparison (binaryOp operator) ≡ some c → (a b : ℕ)
+        → wordsOf (jumpRR sense c a b) ≡ r ∷ first (jumpSwaps sense c) a b ∷ second (jumpSwaps sense c) a b ∷ 0 ∷ []) ⌝ }
+{
+    if sense {
+        match operator {
+            operator::EQUAL => opcode::JUMP_IF_EQUAL,
+            operator::NOT_EQUAL => opcode::JUMP_IF_NOT_EQUAL,
+            operator::LESS | operator::GREATER => opcode::JUMP_IF_LESS,
+            _ => opcode::JUMP_IF_LESS_EQUAL,
+        }
+    } else {
+        match operator {
+            operator::EQUAL => opcode::JUMP_IF_NOT_EQUAL,
+            operator::NOT_EQUAL => opcode::JUMP_IF_EQUAL,
+            operator::LESS | operator::GREATER => opcode::JUMP_IF_LESS_EQUAL,
+            _ => opcode::JUMP_IF_LESS,
+        }
+    }
+}
+
+// The same of a register and a constant, in this order.
+pub fn jump_rk(sense: bool, operator: u32) -> u32
+    ensures { λ r. ⌜ ((c : Comparison) → comparison (binaryOp operator) ≡ some c → (a k : ℕ) → wordsOf (jumpRK sense c a k) ≡ r ∷ a ∷ k ∷ 0 ∷ []) ⌝ }
+{
+    if sense {
+        match operator {
+            operator::EQUAL => opcode::JUMP_IF_EQUAL_K,
+            operator::NOT_EQUAL => opcode::JUMP_IF_NOT_EQUAL_K,
+            operator::LESS => opcode::JUMP_IF_LESS_RK,
+            operator::GREATER => opcode::JUMP_IF_LESS_KR,
+            operator::GREATER_EQUAL => opcode::JUMP_IF_LESS_EQUAL_KR,
+            _ => opcode::JUMP_IF_LESS_EQUAL_RK,
+        }
+    } else {
+        match operator {
+            operator::EQUAL => opcode::JUMP_IF_NOT_EQUAL_K,
+            operator::NOT_EQUAL => opcode::JUMP_IF_EQUAL_K,
+            operator::LESS => opcode::JUMP_IF_LESS_EQUAL_KR,
+            operator::GREATER => opcode::JUMP_IF_LESS_EQUAL_RK,
+            operator::GREATER_EQUAL => opcode::JUMP_IF_LESS_RK,
+            _ => opcode::JUMP_IF_LESS_KR,
+        }
+    }
+}
+
+// The same of a constant and a register; their fields, too, are the register and then the constant.
+pub fn jump_kr(sense: bool, operator: u32) -> u32
+    ensures { λ r. ⌜ ((c : Comparison) → comparison (binaryOp operator) ≡ some c → (k b : ℕ) → wordsOf (jumpKR sense c k b) ≡ r ∷ b ∷ k ∷ 0 ∷ []) ⌝ }
+{
+    if sense {
+        match operator {
+            operator::EQUAL => opcode::JUMP_IF_EQUAL_K,
+            operator::NOT_EQUAL => opcode::JUMP_IF_NOT_EQUAL_K,
+            operator::LESS => opcode::JUMP_IF_LESS_KR,
+            operator::GREATER => opcode::JUMP_IF_LESS_RK,
+            operator::GREATER_EQUAL => opcode::JUMP_IF_LESS_EQUAL_RK,
+            _ => opcode::JUMP_IF_LESS_EQUAL_KR,
+        }
+    } else {
+        match operator {
+            operator::EQUAL => opcode::JUMP_IF_NOT_EQUAL_K,
+            operator::NOT_EQUAL => opcode::JUMP_IF_EQUAL_K,
+            operator::LESS => opcode::JUMP_IF_LESS_EQUAL_RK,
+            operator::GREATER => opcode::JUMP_IF_LESS_EQUAL_KR,
+            operator::GREATER_EQUAL => opcode::JUMP_IF_LESS_KR,
+            _ => opcode::JUMP_IF_LESS_RK,
+        }
+    }
+}
+
+// Whether the operands of jump_rr change places.
+pub fn jump_swaps(sense: bool, operator: u32) -> bool
+    ensures { λ r. ⌜ ((c : Comparison) → comparison (binaryOp operator) ≡ some c → r ≡ jumpSwaps sense c) ⌝ }
 {
     match operator {
-        BinaryOp::Add => Compared::Nothing,
-        BinaryOp::Subtract => Compared::Nothing,
-        BinaryOp::Multiply => Compared::Nothing,
-        BinaryOp::Divide => Compared::Nothing,
-        BinaryOp::Modulo => Compared::Nothing,
-        BinaryOp::Equal => Compared::By(Comparison::Equal),
-        BinaryOp::NotEqual => Compared::By(Comparison::NotEqual),
-        BinaryOp::Greater => Compared::By(Comparison::Greater),
-        BinaryOp::GreaterEqual => Compared::By(Comparison::GreaterEqual),
-        BinaryOp::Less => Compared::By(Comparison::Less),
-        BinaryOp::LessEqual => Compared::By(Comparison::LessEqual),
-    }
-}
-
-// The jump that is taken where the comparison gives `sense`; its offset is patched later.
-pub fn jump_rr(sense: bool, comparison: Comparison, src1: Reg, src2: Reg) -> Instruction
-    ensures { λ r. ⌜ r ≡ jumpRR sense comparison src1 src2 ⌝ }
-{
-    let offset = 0;
-    if sense {
-        match comparison {
-            Comparison::Equal => Instruction::JumpIfEqual { src1, src2, offset },
-            Comparison::NotEqual => Instruction::JumpIfNotEqual { src1, src2, offset },
-            Comparison::Less => Instruction::JumpIfLess { src1, src2, offset },
-            Comparison::LessEqual => Instruction::JumpIfLessEqual { src1, src2, offset },
-            Comparison::Greater => Instruction::JumpIfLess {
-                src1: src2,
-                src2: src1,
-                offset,
-            },
-            Comparison::GreaterEqual => Instruction::JumpIfLessEqual {
-                src1: src2,
-                src2: src1,
-                offset,
-            },
-        }
-    } else {
-        match comparison {
-            Comparison::Equal => Instruction::JumpIfNotEqual { src1, src2, offset },
-            Comparison::NotEqual => Instruction::JumpIfEqual { src1, src2, offset },
-            Comparison::Less => Instruction::JumpIfLessEqual {
-                src1: src2,
-                src2: src1,
-                offset,
-            },
-            Comparison::LessEqual => Instruction::JumpIfLess {
-                src1: src2,
-                src2: src1,
-                offset,
-            },
-            Comparison::Greater => Instruction::JumpIfLessEqual { src1, src2, offset },
-            Comparison::GreaterEqual => Instruction::JumpIfLess { src1, src2, offset },
-        }
-    }
-}
-
-// The same of a register and a constant.
-pub fn jump_rk(sense: bool, comparison: Comparison, src1: Reg, src2: Const) -> Instruction
-    ensures { λ r. ⌜ r ≡ jumpRK sense comparison src1 src2 ⌝ }
-{
-    let offset = 0;
-    if sense {
-        match comparison {
-            Comparison::Equal => Instruction::JumpIfEqualK { src1, src2, offset },
-            Comparison::NotEqual => Instruction::JumpIfNotEqualK { src1, src2, offset },
-            Comparison::Less => Instruction::JumpIfLessRK { src1, src2, offset },
-            Comparison::LessEqual => Instruction::JumpIfLessEqualRK { src1, src2, offset },
-            Comparison::Greater => Instruction::JumpIfLessKR {
-                src2: src1,
-                src1: src2,
-                offset,
-            },
-            Comparison::GreaterEqual => Instruction::JumpIfLessEqualKR {
-                src2: src1,
-                src1: src2,
-                offset,
-            },
-        }
-    } else {
-        match comparison {
-            Comparison::Equal => Instruction::JumpIfNotEqualK { src1, src2, offset },
-            Comparison::NotEqual => Instruction::JumpIfEqualK { src1, src2, offset },
-            Comparison::Less => Instruction::JumpIfLessEqualKR {
-                src2: src1,
-                src1: src2,
-                offset,
-            },
-            Comparison::LessEqual => Instruction::JumpIfLessKR {
-                src2: src1,
-                src1: src2,
-                offset,
-            },
-            Comparison::Greater => Instruction::JumpIfLessEqualRK { src1, src2, offset },
-            Comparison::GreaterEqual => Instruction::JumpIfLessRK { src1, src2, offset },
-        }
-    }
-}
-
-// The same of a constant and a register.
-pub fn jump_kr(sense: bool, comparison: Comparison, src1: Const, src2: Reg) -> Instruction
-    ensures { λ r. ⌜ r ≡ jumpKR sense comparison src1 src2 ⌝ }
-{
-    let offset = 0;
-    if sense {
-        match comparison {
-            Comparison::Equal => Instruction::JumpIfEqualK {
-                src1: src2,
-                src2: src1,
-                offset,
-            },
-            Comparison::NotEqual => Instruction::JumpIfNotEqualK {
-                src1: src2,
-                src2: src1,
-                offset,
-            },
-            Comparison::Less => Instruction::JumpIfLessKR { src2, src1, offset },
-            Comparison::LessEqual => Instruction::JumpIfLessEqualKR { src2, src1, offset },
-            Comparison::Greater => Instruction::JumpIfLessRK {
-                src1: src2,
-                src2: src1,
-                offset,
-            },
-            Comparison::GreaterEqual => Instruction::JumpIfLessEqualRK {
-                src1: src2,
-                src2: src1,
-                offset,
-            },
-        }
-    } else {
-        match comparison {
-            Comparison::Equal => Instruction::JumpIfNotEqualK {
-                src1: src2,
-                src2: src1,
-                offset,
-            },
-            Comparison::NotEqual => Instruction::JumpIfEqualK {
-                src1: src2,
-                src2: src1,
-                offset,
-            },
-            Comparison::Less => Instruction::JumpIfLessEqualRK {
-                src1: src2,
-                src2: src1,
-                offset,
-            },
-            Comparison::LessEqual => Instruction::JumpIfLessRK {
-                src1: src2,
-                src2: src1,
-                offset,
-            },
-            Comparison::Greater => Instruction::JumpIfLessEqualKR { src2, src1, offset },
-            Comparison::GreaterEqual => Instruction::JumpIfLessKR { src2, src1, offset },
-        }
+        operator::EQUAL | operator::NOT_EQUAL => false,
+        operator::GREATER | operator::GREATER_EQUAL => sense,
+        _ => !sense,
     }
 }
 
 // The jump that is taken where the register tests as `sense`.
-pub fn jump_if(sense: bool, src: Reg) -> Instruction
-    ensures { λ r. ⌜ r ≡ jumpIf sense src ⌝ }
+pub fn jump_if(sense: bool) -> u32
+    ensures { λ r. ⌜ ((a : ℕ) → wordsOf (jumpIf sense a) ≡ r ∷ a ∷ 0 ∷ 0 ∷ []) ⌝ }
 {
     if sense {
-        Instruction::JumpIfTrue { src, offset: 0 }
+        opcode::JUMP_IF_TRUE
     } else {
-        Instruction::JumpIfFalse { src, offset: 0 }
+        opcode::JUMP_IF_FALSE
     }
 }

@@ -1,33 +1,31 @@
 -- `operators::binary_rk` meets its contract: each arm answers what the table says of its operator. Assumes nothing.
-use borrow.Author.Needs.{needs}
+use Prim.Native.Nat.{_≤_}
+use native.Mathlib.Omega.{arith}
+use Rattle.syntax.specs.Ops.{binaryOp}
+use Rattle.syntax.proofs.Tables.{five-past}
+use Rattle.runtime.specs.Instruction.{wordsOf}
 use Rattle.lowering.specs.Operators.{binaryRK}
+use Rattle.operators.specs.Opcodes.{swaps}
+use Rattle.operators.proofs.Words.{past}
 use Rattle.operators.proofs.binary_rk.Statement.{statement}
 use Rattle.operators.proofs.binary_rk.Tie as tie
 
 pub binary-rk-spec : {M : Type 1} → statement M
-unfolding binaryRK
+unfolding wordsOf binaryOp binaryRK swaps
 binary-rk-spec =
     tie.close
     (tie.spec
-    (λ c. search needs)
-    (λ c. search needs)
-    (λ c. search needs)
-    (λ c. search needs)
-    (λ c. search needs)
-    (λ c. search needs)
-    (λ c. search needs)
-    (λ c. search needs)
-    (λ c. search needs)
-    (λ c. search needs)
-    (λ c. search needs)
-    (λ c. rw (c .enum-told .given .1))
-    (λ c. rw (c .enum-told2 .given .1))
-    (λ c. rw (c .enum-told3 .given .1))
-    (λ c. rw (c .enum-told4 .given .1))
-    (λ c. rw (c .enum-told5 .given .1))
-    (λ c. rw (c .enum-told6 .given .1))
-    (λ c. rw (c .enum-told7 .given .1))
-    (λ c. rw (c .enum-told8 .given .1))
-    (λ c. rw (c .enum-told9 .given .1))
-    (λ c. rw (c .enum-told10 .given .1))
-    (λ c. rw (c .enum-told11 .given .1)))
+    (λ c d a k. rw (c .match .keys1))
+    (λ c d a k. rw (c .match .keys2))
+    (λ c d a k. rw (c .match .keys3))
+    (λ c d a k. rw (c .match .keys4))
+    (λ c d a k. rw (c .match .keys5))
+    (λ c d a k. rw (c .match .keys6))
+    (λ c d a k. rw (c .match .keys7))
+    (λ c d a k. rw (c .match .keys8))
+    (λ c d a k. rw (c .match .keys9))
+    (λ c d a k. rw (c .match .keys10))
+    (λ c d a k.
+    let r = c .match .rest in
+    let five : 5 ≤ c .before .args .operator = five-past 0 (omega arith) (r .0 .0 .0 .0 .0 .0 .0 .0 .0 .1) (r .0 .0 .0 .0 .0 .0 .0 .0 .1) (r .0 .0 .0 .0 .0 .0 .0 .1) (r .0 .0 .0 .0 .0 .0 .1) (r .0 .0 .0 .0 .0 .1) in
+    rw (past _ (five-past 5 five (r .0 .0 .0 .0 .1) (r .0 .0 .0 .1) (r .0 .1) (r .1) (r .0 .0 .1)))))

@@ -1,12 +1,13 @@
 -- `operators::jump_if` meets its contract: each way out answers what the table says of its sense. Assumes nothing.
+use Rattle.runtime.specs.Instruction.{wordsOf}
 use Rattle.lowering.specs.Operators.{jumpIf}
 use Rattle.operators.proofs.jump_if.Statement.{statement}
 use Rattle.operators.proofs.jump_if.Tie as tie
 
 pub jump-if-spec : {M : Type 1} → statement M
-unfolding jumpIf
+unfolding wordsOf jumpIf
 jump-if-spec =
     tie.close
     (tie.spec
-    (λ c. rw (c .if1 .taken))
-    (λ c. rw (c .if1 .left)))
+    (λ c a. rw (c .if1 .taken))
+    (λ c a. rw (c .if1 .left)))

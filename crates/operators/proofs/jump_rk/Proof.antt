@@ -1,35 +1,32 @@
 -- `operators::jump_rk` meets its contract: each arm answers what the table says of its sense and comparison. Assumes nothing.
-use borrow.Author.Needs.{needs}
-use Rattle.lowering.specs.Operators.{jumpRK}
+use Rattle.syntax.specs.Ops.{binaryOp}
+use Rattle.syntax.proofs.Tables.{five-past}
+use Rattle.runtime.specs.Instruction.{wordsOf}
+use Rattle.lowering.specs.Operators.{comparison, jumpRK}
+use Rattle.operators.proofs.Words.{past, first-comparison, same}
 use Rattle.operators.proofs.jump_rk.Statement.{statement}
 use Rattle.operators.proofs.jump_rk.Tie as tie
 
 pub jump-rk-spec : {M : Type 1} → statement M
-unfolding jumpRK
+unfolding wordsOf binaryOp comparison jumpRK
 jump-rk-spec =
     tie.close
     (tie.spec
-    (λ c. search needs)
-    (λ c. search needs)
-    (λ c. search needs)
-    (λ c. search needs)
-    (λ c. search needs)
-    (λ c. search needs)
-    (λ c. search needs)
-    (λ c. search needs)
-    (λ c. search needs)
-    (λ c. search needs)
-    (λ c. search needs)
-    (λ c. search needs)
-    (λ c. rw (c .before .before .if1 .taken, c .enum-told .given .1))
-    (λ c. rw (c .before .before .if1 .taken, c .enum-told2 .given .1))
-    (λ c. rw (c .before .before .if1 .taken, c .enum-told3 .given .1))
-    (λ c. rw (c .before .before .if1 .taken, c .enum-told4 .given .1))
-    (λ c. rw (c .before .before .if1 .taken, c .enum-told5 .given .1))
-    (λ c. rw (c .before .before .if1 .taken, c .enum-told6 .given .1))
-    (λ c. rw (c .before .before .if1 .left, c .enum-told7 .given .1))
-    (λ c. rw (c .before .before .if1 .left, c .enum-told8 .given .1))
-    (λ c. rw (c .before .before .if1 .left, c .enum-told9 .given .1))
-    (λ c. rw (c .before .before .if1 .left, c .enum-told10 .given .1))
-    (λ c. rw (c .before .before .if1 .left, c .enum-told11 .given .1))
-    (λ c. rw (c .before .before .if1 .left, c .enum-told12 .given .1)))
+    (λ c x e a k. rw (c .before .if1 .taken, same (rw (c .match .keys1) at e)))
+    (λ c x e a k. rw (c .before .if1 .taken, same (rw (c .match .keys2) at e)))
+    (λ c x e a k. rw (c .before .if1 .taken, same (rw (c .match .keys3) at e)))
+    (λ c x e a k. rw (c .before .if1 .taken, same (rw (c .match .keys4) at e)))
+    (λ c x e a k. rw (c .before .if1 .taken, same (rw (c .match .keys5) at e)))
+    (λ c x e a k.
+    let r = c .match .rest in
+    let ten = five-past 5 (first-comparison _ e) (r .0 .0 .0 .0 .1) (r .0 .0 .0 .1) (r .0 .1) (r .1) (r .0 .0 .1) in
+    rw (c .before .if1 .taken, same (rw (past _ ten) at e)))
+    (λ c x e a k. rw (c .before .if1 .left, same (rw (c .match2 .keys1) at e)))
+    (λ c x e a k. rw (c .before .if1 .left, same (rw (c .match2 .keys2) at e)))
+    (λ c x e a k. rw (c .before .if1 .left, same (rw (c .match2 .keys3) at e)))
+    (λ c x e a k. rw (c .before .if1 .left, same (rw (c .match2 .keys4) at e)))
+    (λ c x e a k. rw (c .before .if1 .left, same (rw (c .match2 .keys5) at e)))
+    (λ c x e a k.
+    let r = c .match2 .rest in
+    let ten = five-past 5 (first-comparison _ e) (r .0 .0 .0 .0 .1) (r .0 .0 .0 .1) (r .0 .1) (r .1) (r .0 .0 .1) in
+    rw (c .before .if1 .left, same (rw (past _ ten) at e))))
