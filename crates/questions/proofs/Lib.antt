@@ -1,4 +1,4 @@
 mod Asked
 mod Below
-mod Part
+pub mod Part
 mod Tables

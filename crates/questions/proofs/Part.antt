@@ -24,7 +24,7 @@ module _ (nodes : List ℕ) (i : ℕ) where
     node-byte : (k n : ℕ) → k < 24 → n ≡ 24 * i + k → getD nodeBytes k 0 ≡ getD nodes n 0
     node-byte k n h e = rw (getD-take (24 * i + 24 - 24 * i) (drop (24 * i) nodes) k 0 (omega arith), getD-drop (24 * i) nodes k 0, e)
 
-    node-word : (k : ℕ) → k < 6 → getD (words nodeBytes) k 0 ≡ nodeWord (words nodes) i k
+    pub node-word : (k : ℕ) → k < 6 → getD (words nodeBytes) k 0 ≡ nodeWord (words nodes) i k
     unfolding nodeWord
     node-word k h =
         let whole : length nodeBytes ≡ 24 = simp (length-take, length-drop) (omega (arith, node-end)) in
