@@ -1,171 +1,180 @@
--- A step of a do-block, by the program's answer: it stops with the refusal, or goes on with what the answer gives. From `e : answered gives o ≡ seen m a`,
--- which is what a step ensures; each law keeps the rest of the block below `answered`. Assumes nothing.
+-- A step of a do-block, by the word that the program has of it: it stops with the refusal, or goes on with what the word gives. From
+-- `e : settled o ≡ seen t gives m a`, which is what a function of the walk ensures. Assumes nothing.
 use mathlib.Core.Path.{_≡_, refl, sym, _∙_, ap}
+use mathlib.Core.Logic.{_≢_}
 use mathlib.Core.Bool.{Bool, true, false, false≢true}
-use Prim.Native.Nat.{ℕ}
+use mathlib.Core.List.{List, [], _∷_}
+use Prim.Native.Nat.{ℕ, _-_, _<_}
+use native.Mathlib.Omega.{arith}
+use borrow.Author.Tests.{eq-eqb, ne-eqb}
+use Rattle.diagnostics.specs.declared.Refusal.{Refusal}
 use Rattle.diagnostics.specs.declared.Place.{Place}
+use Rattle.diagnostics.specs.declared.Error.{Error}
+use Rattle.words.specs.Records.{Buffer, buffer, append, appended, full, maxCount}
 use Rattle.environment.specs.declared.Register.{Register}
-use Rattle.environment.specs.declared.Found.{Found}
+use Rattle.environment.specs.declared.Taken.{Taken}
+use Rattle.environment.specs.Registers.{taken}
+use Rattle.environment.specs.Environment.{found, allocated}
+use Rattle.environment.proofs.Laws.{place-takes, refused}
+use Rattle.runtime.specs.declared.instruction.Instruction.{Instruction}
 use Rattle.runtime.specs.declared.operand.Operand.{Operand}
-use Rattle.lowering.specs.Walk.{Made, Outcome, ends, stops, Walk, bind, ret}
-use Rattle.lowering.specs.declared.Dest.{Dest}
+use Rattle.runtime.specs.Instruction.{wordsOf}
+use Rattle.runtime.specs.Function.{emitInstruction, storeConstant, maxInstructions}
 use Rattle.lowering.specs.Tree.{Tree}
-use Rattle.lowering.specs.Steps.{placed, registered, store}
-use Rattle.lowering.specs.Lower.{Source, source, register, constant, storeNamed, storeKeyed}
-use Rattle.steps.specs.declared.answer.Answer.{Answer}
-use Rattle.steps.specs.Answers.{refused, operandOf, placeOf, heldBy, isRegister, registerOf, seen, answered, asRegister, placeAnswer, registerAnswer, inRegister}
+use Rattle.lowering.specs.Walk.{Made, Outcome, ends, stops, Walk, bind, ret, unnamed}
+use Rattle.lowering.specs.Steps.{withRegisters, withCode, withConstants, withMarks, placed, registered, allocateTemp, emit, store, mark}
+use Rattle.steps.specs.Answers.{registerAt, none, numberAt, settle, settled, seen, isRefusal, valueOf, numberOfRefusal, refusalWord, refusalOf, wordEnd, namesNode, errorAt}
+use Rattle.steps.proofs.Words.{registerAt-temporary, isRefusal-refusal, valueOf-refusal, numberOfRefusal-refusal, refusal-number, isRefusal-word, valueOf-word}
 
--- an outcome of answers, with what each gives
-unfoldable given : {A : Type 0} → (Answer → A) → Outcome Answer → Outcome A
-given of (ends a m) = ends (of a) m
-given of (stops e m) = stops e m
-
--- what an answer gives is what it was made of
-given-answered : {A : Type 0} (gives : A → Answer) (of : Answer → A) → ((x : A) → of (gives x) ≡ x) → (o : Outcome A) → given of (answered gives o) ≡ o
-unfolding given answered
-given-answered gives of same (ends x m) = rw (same x)
-given-answered gives of same (stops e m) = refl
-
-given-seen : {A : Type 0} (of : Answer → A) (m : Made) (a : Answer) → refused a ≡ false → given of (seen m a) ≡ ends (of a) m
-unfolding given seen refused
-given-seen of m (Answer.Operand x) h = refl
-given-seen of m (Answer.Place p) h = refl
-given-seen of m (Answer.Refused e) h = absurd (false≢true (sym h))
-
--- what is left by an outcome, and whether it stopped
-unfoldable leaves : {A : Type 0} → Outcome A → Made
-leaves (ends x m) = m
-leaves (stops e m) = m
-
+-- whether an outcome stopped
 unfoldable stopped : {A : Type 0} → Outcome A → Bool
 stopped (ends x m) = false
 stopped (stops e m) = true
 
--- the answer that is seen
-unfoldable unseen : Outcome Answer → Answer
-unseen (ends a m) = a
-unseen (stops e m) = Answer.Refused e
+-- what settled is, if it ended
+pub got : {A : Type 0} (o : Outcome A) (x : A) (m : Made) → settled o ≡ ends x m → o ≡ ends x m
+unfolding settled stopped
+got (ends y n) x m e = e
+got (stops f n) x m e = absurd (false≢true (sym (ap stopped e)))
 
-unseen-seen : (m : Made) (a : Answer) → unseen (seen m a) ≡ a
-unfolding unseen seen
-unseen-seen m (Answer.Operand x) = refl
-unseen-seen m (Answer.Place p) = refl
-unseen-seen m (Answer.Refused e) = refl
+-- a refusal, as an outcome of another kind
+unfoldable carried : {A B : Type 0} → Outcome B → Outcome A → Outcome B
+carried other (ends x m) = other
+carried other (stops e m) = stops e m
 
-leaves-seen : (m : Made) (a : Answer) → leaves (seen m a) ≡ m
-unfolding leaves seen
-leaves-seen m (Answer.Operand x) = refl
-leaves-seen m (Answer.Place p) = refl
-leaves-seen m (Answer.Refused e) = refl
+-- a stop is the block's
+over : {A B : Type 0} (o : Outcome A) (k : A → Walk B) (f : Error) (m : Made) → settled o ≡ stops f m → settled (bind o k) ≡ stops f m
+unfolding settled stopped bind carried
+over (ends y n) k f m e = absurd (false≢true (ap stopped e))
+over (stops g n) k f m e = ap (carried (stops g (settle n))) e
 
--- what is seen fixes what is left and the answer, its kind too
-pub seen-one-to-one : (m n : Made) (a b : Answer) → seen m a ≡ seen n b → (m ≡ n) × (a ≡ b)
-seen-one-to-one m n a b e =
-    (sym (leaves-seen m a) ∙ ap leaves e ∙ leaves-seen n b, sym (unseen-seen m a) ∙ ap unseen e ∙ unseen-seen n b)
-
--- a step that ended, of any kind: `of` reads its answers
-got : {A : Type 0} (gives : A → Answer) (of : Answer → A) → ((x : A) → of (gives x) ≡ x) → (o : Outcome A) (m : Made) (a : Answer) →
-    answered gives o ≡ seen m a → refused a ≡ false → o ≡ ends (of a) m
-got gives of same o m a e h = sym (given-answered gives of same o) ∙ ap (given of) e ∙ given-seen of m a h
-
-pub got-register : (o : Outcome Register) (m : Made) (a : Answer) → answered asRegister o ≡ seen m a → refused a ≡ false → o ≡ ends (registerOf a) m
-unfolding operandOf heldBy
-got-register = got (λ x. asRegister x) (λ a. registerOf a) (λ x. refl)
-
-pub got-place : (o : Outcome ℕ) (m : Made) (a : Answer) → answered Answer.Place o ≡ seen m a → refused a ≡ false → o ≡ ends (placeOf a) m
-unfolding placeOf
-got-place = got Answer.Place placeOf (λ x. refl)
-
-pub then-got : {A B : Type 0} (gives : A → Answer) (of : Answer → A) → ((x : A) → of (gives x) ≡ x) →
-    (o : Outcome A) (m : Made) (a : Answer) (k : A → Walk B) (gives′ : B → Answer) → answered gives o ≡ seen m a → refused a ≡ false →
-    {r : Outcome Answer} → answered gives′ (k (of a) m) ≡ r → answered gives′ (bind o k) ≡ r
+-- a step that always ends
+pub then-done : {B : Type 0} {o : Outcome Unit} {m : Made} (k : Unit → Walk B) {r : Outcome B} → o ≡ ends tt m → settled (k tt m) ≡ r → settled (bind o k) ≡ r
 unfolding bind
-then-got gives of same o m a k gives′ e h q = rw (got gives of same o m a e h) q
+then-done k e q = rw e q
 
-module _ {B : Type 0} where
-  -- a step that ended, by the kind of its answer
-  pub then-operand : (o : Outcome Operand) (m : Made) (a : Answer) (k : Operand → Walk B) (gives : B → Answer) → answered Answer.Operand o ≡ seen m a →
-      refused a ≡ false → {r : Outcome Answer} → answered gives (k (operandOf a) m) ≡ r → answered gives (bind o k) ≡ r
-  unfolding operandOf
-  then-operand = then-got Answer.Operand operandOf (λ x. refl)
+-- the last step of a block
+pub last : {A : Type 0} (o : Outcome A) {r : Outcome A} → settled (bind o (λ x. ret x)) ≡ r → settled o ≡ r
+unfolding bind
+last (ends x m) q = q
+last (stops e m) q = q
 
-  pub then-register : (o : Outcome Register) (m : Made) (a : Answer) (k : Register → Walk B) (gives : B → Answer) → answered asRegister o ≡ seen m a →
-      refused a ≡ false → {r : Outcome Answer} → answered gives (k (registerOf a) m) ≡ r → answered gives (bind o k) ≡ r
-  unfolding operandOf heldBy
-  then-register = then-got (λ x. asRegister x) (λ a. registerOf a) (λ x. refl)
+-- a block in a block
+pub nested : {A B C : Type 0} (o : Outcome A) (k : A → Walk B) (l : B → Walk C) {r : Outcome C} → settled (bind o (λ x m. bind (k x m) l)) ≡ r → settled (bind (bind o k) l) ≡ r
+unfolding bind
+nested (ends x m) k l q = q
+nested (stops e m) k l q = q
 
-  pub then-place : (o : Outcome ℕ) (m : Made) (a : Answer) (k : ℕ → Walk B) (gives : B → Answer) → answered Answer.Place o ≡ seen m a →
-      refused a ≡ false → {r : Outcome Answer} → answered gives (k (placeOf a) m) ≡ r → answered gives (bind o k) ≡ r
-  unfolding placeOf
-  then-place = then-got Answer.Place placeOf (λ x. refl)
+module _ (t : Tree) where
+  -- what is seen of a word, and of a refusal
+  pub seen-given : {A : Type 0} (gives : ℕ → A) (m : Made) (a : ℕ) → isRefusal a ≡ false → seen t gives m a ≡ ends (gives (valueOf a)) m
+  unfolding seen
+  seen-given gives m a h = rw h
 
-  -- a step that always ends
-  pub then-done : {o : Outcome Unit} {m : Made} (k : Unit → Walk B) (gives : B → Answer) → o ≡ ends tt m →
-      {r : Outcome Answer} → answered gives (k tt m) ≡ r → answered gives (bind o k) ≡ r
-  unfolding bind
-  then-done k gives e q = rw e q
+  pub seen-stopped : {A : Type 0} (gives : ℕ → A) (m : Made) (a : ℕ) → isRefusal a ≡ true →
+      seen t gives m a ≡ stops (errorAt t (refusalOf (numberOfRefusal a)) (valueOf a)) (settle m)
+  unfolding seen
+  seen-stopped gives m a h = rw h
 
-  -- a refusal ends the block, whatever the kinds of its answers
-  pub stop-refused : {A : Type 0} (gives : A → Answer) (o : Outcome A) (m : Made) (a : Answer) (k : A → Walk B) (gives′ : B → Answer) →
-      answered gives o ≡ seen m a → refused a ≡ true → answered gives′ (bind o k) ≡ seen m a
-  unfolding bind answered seen refused stopped
-  stop-refused gives (ends x m′) m (Answer.Operand y) k gives′ e h = absurd (false≢true h)
-  stop-refused gives (ends x m′) m (Answer.Place p) k gives′ e h = absurd (false≢true h)
-  stop-refused gives (ends x m′) m (Answer.Refused f) k gives′ e h = absurd (false≢true (ap stopped e))
-  stop-refused gives (stops f m′) m (Answer.Operand y) k gives′ e h = absurd (false≢true h)
-  stop-refused gives (stops f m′) m (Answer.Place p) k gives′ e h = absurd (false≢true h)
-  stop-refused gives (stops f m′) m (Answer.Refused f′) k gives′ e h = e
+  -- a word of 32 bits is no refusal
+  pub seen-word : {A : Type 0} (gives : ℕ → A) (m : Made) (w : ℕ) → w < wordEnd → seen t gives m w ≡ ends (gives w) m
+  seen-word gives m w h = rw (valueOf-word w h) at (seen-given gives m w (isRefusal-word w h))
 
--- the answers of the parts below, as outcomes
-pub placed-seen : (place : Place) (m : Made) → answered Answer.Place (placed place m) ≡ seen m (placeAnswer place)
-unfolding placed answered seen placeAnswer
-placed-seen (Place.At p) m = refl
-placed-seen (Place.Refused refusal) m = refl
+  pub seen-refusal : {A : Type 0} (gives : ℕ → A) (m : Made) (refusal : Refusal) (place : ℕ) → place < wordEnd →
+      seen t gives m (refusalWord refusal place) ≡ stops (errorAt t refusal place) (settle m)
+  seen-refusal gives m refusal place h =
+      rw (numberOfRefusal-refusal refusal place h, refusal-number, valueOf-refusal refusal place h) at
+      (seen-stopped gives m (refusalWord refusal place) (isRefusal-refusal refusal place))
 
-pub registered-seen : (found : Found) (m : Made) → answered asRegister (registered found m) ≡ seen m (registerAnswer found)
-unfolding registered answered seen registerAnswer
-registered-seen (Found.At r) m = refl
-registered-seen (Found.Refused refusal) m = refl
+  module _ {A B : Type 0} (o : Outcome A) (gives : ℕ → A) (m : Made) (a : ℕ) (k : A → Walk B) (e : settled o ≡ seen t gives m a) where
+    -- a step that gave: the rest, with what the word gives
+    pub then : {r : Outcome B} → isRefusal a ≡ false → settled (k (gives (valueOf a)) m) ≡ r → settled (bind o k) ≡ r
+    unfolding bind
+    then h q = rw (got o (gives (valueOf a)) m (e ∙ seen-given gives m a h)) q
 
--- a last step, of any kind, and then the destination
-after : {A B : Type 0} (gives : A → Answer) (o : Outcome A) (m : Made) (a : Answer) (d : Register) (gives′ : B → Answer) (x : B) → gives′ x ≡ asRegister d →
-    answered gives o ≡ seen m a → answered gives′ (bind o (λ y. ret x)) ≡ seen m (inRegister a d)
-unfolding bind answered seen inRegister refused stopped leaves
-after gives (ends y m′) m (Answer.Operand z) d gives′ x same e = rw (ap leaves e, same)
-after gives (ends y m′) m (Answer.Place p) d gives′ x same e = rw (ap leaves e, same)
-after gives (ends y m′) m (Answer.Refused f) d gives′ x same e = absurd (false≢true (ap stopped e))
-after gives (stops f m′) m (Answer.Operand z) d gives′ x same e = absurd (false≢true (sym (ap stopped e)))
-after gives (stops f m′) m (Answer.Place p) d gives′ x same e = absurd (false≢true (sym (ap stopped e)))
-after gives (stops f m′) m (Answer.Refused f′) d gives′ x same e = e
+    -- a step that refused ends the block
+    pub stop : (gives′ : ℕ → B) → isRefusal a ≡ true → settled (bind o k) ≡ seen t gives′ m a
+    stop gives′ h = over o k _ _ (e ∙ seen-stopped gives m a h) ∙ sym (seen-stopped gives′ m a h)
 
--- as a register, and as an operand
-module _ {A : Type 0} (gives : A → Answer) (o : Outcome A) (m : Made) (a : Answer) (d : Register) (e : answered gives o ≡ seen m a) where
-  pub register-after : answered asRegister (bind o (λ x. ret d)) ≡ seen m (inRegister a d)
-  register-after = after gives o m a d (λ x. asRegister x) d refl e
+    -- the same, by what the program asked and read
+    pub then-by : {r : Outcome B} {b : Bool} {x : ℕ} → b ≡ isRefusal a → b ≡ false → x ≡ valueOf a → settled (k (gives x) m) ≡ r → settled (bind o k) ≡ r
+    then-by told left read q = then (sym told ∙ left) (rw read at q)
 
-  pub operand-after : answered Answer.Operand (bind o (λ x. ret (Operand.Register d))) ≡ seen m (inRegister a d)
-  operand-after = after gives o m a d Answer.Operand (Operand.Register d) refl e
+    pub stop-by : (gives′ : ℕ → B) {b : Bool} → b ≡ isRefusal a → b ≡ true → settled (bind o k) ≡ seen t gives′ m a
+    stop-by gives′ told taken = stop gives′ (sym told ∙ taken)
 
--- where an operand is, by the program's question
-pub source-register : (x : Operand) → isRegister x ≡ true → source x ≡ register (heldBy x)
-unfolding isRegister source heldBy
-source-register (Operand.Register r) h = refl
-source-register (Operand.Number x) h = absurd (false≢true h)
-source-register (Operand.String symbol) h = absurd (false≢true h)
-source-register (Operand.Boolean b) h = absurd (false≢true h)
-source-register Operand.Nil h = absurd (false≢true h)
+  -- a record appended, by the place or `full` that the program has of it and how many it counted then. `put` is what was made, by the words and the count of the
+  -- buffer: each of the three buffers has one.
+  module _ {B : Type 0} (put : List ℕ → ℕ → Made) (after : Buffer) (ws : List ℕ) (count n : ℕ) (refusal : Refusal) (k : ℕ → Walk B)
+      (left : buffer ws (appended count n refusal) ≡ after) where
+    then-appended : {count′ : ℕ} {r : Outcome B} → n ≢ full → count′ ≡ appended count n refusal .count → settled (k n (put ws count′)) ≡ r →
+        settled (bind (placed (after .answer .place) (put (after .words) (after .answer .count))) k) ≡ r
+    unfolding appended placed bind
+    then-appended h e q = rw (← left, ne-eqb n full h) (rw (e, ne-eqb n full h) at q)
 
-pub source-constant : (x : Operand) → isRegister x ≡ false → source x ≡ constant x
-unfolding isRegister source
-source-constant (Operand.Register r) h = absurd (false≢true (sym h))
-source-constant (Operand.Number x) h = refl
-source-constant (Operand.String symbol) h = refl
-source-constant (Operand.Boolean b) h = refl
-source-constant Operand.Nil h = refl
+    stop-appended : (gives : ℕ → B) → n ≡ full → namesNode refusal ≡ false →
+        settled (bind (placed (after .answer .place) (put (after .words) (after .answer .count))) k) ≡ seen t gives (put ws count) (refusalWord refusal 0)
+    unfolding appended placed bind settled errorAt
+    stop-appended gives h u = rw (← left, eq-eqb n full h) (sym (rw u at (seen-refusal gives (put ws count) refusal 0 (omega arith))))
 
--- a key that is a constant is pooled, and then the entry is one whose key is in the pool
-pub keyed-pooled : (t : Tree) (E : ℕ → Dest → Walk Operand) (d : Register) (c : Operand) (value : Source) (m : Made) →
-    storeKeyed t E d (constant c) value m ≡ bind (store c m) (λ key. storeNamed t E d key value)
-unfolding storeKeyed storeNamed
-keyed-pooled t E d c (register v) m = refl
-keyed-pooled t E d c (constant v) m = refl
+  module _ {B : Type 0} (m : Made) (n : ℕ) (k : ℕ → Walk B) where
+    -- an instruction emitted
+    module _ (i : Instruction) {op a b c : ℕ} {code : List ℕ} (told : wordsOf i ≡ op ∷ a ∷ b ∷ c ∷ [])
+        (left : buffer code (appended (m .state .instructions) n Refusal.Code) ≡ append (m .code) (m .state .instructions) maxInstructions (op ∷ a ∷ b ∷ c ∷ []) Refusal.Code) where
+      pub then-emitted : {count : ℕ} {r : Outcome B} → n ≢ full → count ≡ appended (m .state .instructions) n Refusal.Code .count →
+          settled (k n (withCode code count m)) ≡ r → settled (bind (emit i m) k) ≡ r
+      unfolding emit emitInstruction
+      then-emitted h e q = rw told (then-appended (λ ws count. withCode ws count m) _ code (m .state .instructions) n Refusal.Code k left h e q)
+
+      pub stop-emitted : (gives : ℕ → B) → n ≡ full →
+          settled (bind (emit i m) k) ≡ seen t gives (withCode code (m .state .instructions) m) (refusalWord Refusal.Code 0)
+      unfolding emit emitInstruction namesNode
+      stop-emitted gives h = rw told (stop-appended (λ ws count. withCode ws count m) _ code (m .state .instructions) n Refusal.Code k left gives h refl)
+
+    -- a constant pooled
+    module _ (c : Operand) {pool : List ℕ} (left : buffer pool (appended (m .state .constants) n Refusal.Constants) ≡ storeConstant (m .constants) (m .state .constants) c) where
+      pub then-stored : {count : ℕ} {r : Outcome B} → n ≢ full → count ≡ appended (m .state .constants) n Refusal.Constants .count →
+          settled (k n (withConstants pool count m)) ≡ r → settled (bind (store c m) k) ≡ r
+      unfolding store
+      then-stored = then-appended (λ ws count. withConstants ws count m) _ pool (m .state .constants) n Refusal.Constants k left
+
+      pub stop-stored : (gives : ℕ → B) → n ≡ full →
+          settled (bind (store c m) k) ≡ seen t gives (withConstants pool (m .state .constants) m) (refusalWord Refusal.Constants 0)
+      unfolding store namesNode
+      stop-stored gives h = stop-appended (λ ws count. withConstants ws count m) _ pool (m .state .constants) n Refusal.Constants k left gives h refl
+
+    -- the last instruction marked, where there is one
+    module _ (call start end : ℕ) {marks : List ℕ} (there : m .state .instructions ≢ 0)
+        (left : buffer marks (appended (m .state .marks) n Refusal.Marks) ≡ append (m .marks) (m .state .marks) maxCount ((m .state .instructions - 1) ∷ []) Refusal.Marks) where
+      pub then-marked : {count : ℕ} {r : Outcome B} → n ≢ full → count ≡ appended (m .state .marks) n Refusal.Marks .count →
+          settled (k n (withMarks marks count m)) ≡ r → settled (bind (mark call start end m) k) ≡ r
+      unfolding mark
+      then-marked h e q = rw (ne-eqb (m .state .instructions) 0 there) (then-appended (λ ws count. withMarks ws count m) _ marks (m .state .marks) n Refusal.Marks k left h e q)
+
+      pub stop-marked : (gives : ℕ → B) → n ≡ full →
+          settled (bind (mark call start end m) k) ≡ seen t gives (withMarks marks (m .state .marks) m) (refusalWord Refusal.Marks 0)
+      unfolding mark namesNode
+      stop-marked gives h = rw (ne-eqb (m .state .instructions) 0 there) (stop-appended (λ ws count. withMarks ws count m) _ marks (m .state .marks) n Refusal.Marks k left gives h refl)
+
+-- a temporary taken, by what the program has of it: its number, or `none` where no register is free
+module _ (m : Made) {after : Taken} {w : ℕ} (took : after ≡ taken (m .state .registers)) (number : w ≡ numberAt (after .place)) where
+  place : taken (m .state .registers) .place ≡ after .place
+  place = sym (ap (λ x. x .place) took)
+
+  pub some-allocated : w ≢ none → allocateTemp m ≡ ends (registerAt w) (withRegisters (after .set) m)
+  unfolding allocateTemp allocated found registered numberAt
+  some-allocated h = rw (← took, number) (go (after .place) place (rw number at h))
+    where
+      go : (p : Place) → taken (m .state .registers) .place ≡ p → numberAt p ≢ none →
+          registered (found Register.Temp p) (withRegisters (after .set) m) ≡ ends (registerAt (numberAt p)) (withRegisters (after .set) m)
+      go (Place.At r) e h = rw (registerAt-temporary r (place-takes (m .state .registers) r e .in-range))
+      go (Place.Refused refusal) e h = absurd (h refl)
+
+  pub none-allocated : (t : Tree) → w ≡ none → settled (allocateTemp m) ≡ seen t registerAt m (refusalWord Refusal.Registers 0)
+  unfolding allocateTemp allocated found registered numberAt settled errorAt namesNode
+  none-allocated t h = rw (← took) (go (after .place) place (sym number ∙ h)) ∙ sym (seen-refusal t registerAt m Refusal.Registers 0 (omega arith))
+    where
+      go : (p : Place) → taken (m .state .registers) .place ≡ p → numberAt p ≡ none →
+          settled (registered (found Register.Temp p) (withRegisters (after .set) m)) ≡ stops (unnamed Refusal.Registers) (settle m)
+      go (Place.At r) e h = absurd (omega (arith, place-takes (m .state .registers) r e .in-range))
+      go (Place.Refused refusal) e h = rw (refused (m .state .registers) refusal e .reason)

@@ -1,2 +1,3 @@
 pub mod Chains
-pub mod Conditions
+mod OperatorEnds
+pub mod Words

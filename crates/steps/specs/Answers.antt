@@ -1,101 +1,149 @@
--- What an answer of the walk says, beside what is left: the enum of the program, read as an outcome of the definition. A refusal's number, place and span
--- are those of its `Error`. A contract equates `answered` of the definition's outcome with `seen` of the program's answer: both the kind of the answer
--- and what it gives are fixed.
-use Prim.Native.Nat.{ℕ}
+-- What a word of the walk says: a register, a destination, an operand, an answer. A contract of the walk equates the definition's outcome with what is seen
+-- of the program's answer: whether it ended or stopped, with what, and all that is left.
+use Prim.Native.Nat.{ℕ, _+_, _*_, _-_, _/_, _%_, _≤_, _<_}
+use mathlib.Core.Path.{_≡_}
+use mathlib.Core.Logic.{_⊎_}
 use mathlib.Core.Bool.{Bool, true, false, cond}
+use mathlib.Core.List.{List, [], _∷_}
+use lib.Dec.{leb, ltb, eqb}
+use lib.ListN.{getD}
+use Rattle.diagnostics.specs.declared.Refusal.{Refusal}
 use Rattle.diagnostics.specs.declared.Place.{Place}
+use Rattle.diagnostics.specs.declared.Error.{Error}
+use Rattle.diagnostics.specs.Refusal.{refusalNumber}
 use Rattle.environment.specs.declared.Register.{Register}
-use Rattle.environment.specs.declared.Found.{Found}
+use Rattle.environment.specs.declared.RegisterSet.{RegisterSet}
+use Rattle.environment.specs.Registers.{allFree}
+use Rattle.syntax.specs.declared.ast.Node.{Node}
 use Rattle.runtime.specs.declared.operand.Operand.{Operand}
-use Rattle.runtime.specs.declared.instruction.Instruction.{Instruction}
-use Rattle.runtime.specs.Operands.{regOf}
 use Rattle.lowering.specs.declared.Dest.{Dest}
-use Rattle.lowering.specs.Tree.{Tree}
-use Rattle.lowering.specs.Walk.{Made, Outcome, ends, stops, Walk, bind, _>>=_, _>>_, ret, unnamed}
-use Rattle.lowering.specs.Steps.{emit, store, freeTemp}
-use Rattle.lowering.specs.Lower.{source, storeNamed}
-use Rattle.steps.specs.declared.answer.Answer.{Answer}
+use Rattle.lowering.specs.declared.State.{State}
+use Rattle.lowering.specs.Tree.{Tree, spanStart, spanEnd}
+use Rattle.lowering.specs.Walk.{Made, Outcome, ends, stops, error}
+use Rattle.lowering.specs.Steps.{withRegisters}
+use Rattle.lowering.specs.Literals.{literal}
+use Rattle.lowering.specs.Lower.{Source, register, constant}
 
-unfoldable pub refused : Answer → Bool
-refused (Answer.Operand x) = false
-refused (Answer.Place p) = false
-refused (Answer.Refused e) = true
+-- a register: a temporary's number, or a local's and 256 more
+unfoldable pub registerAt : ℕ → Register
+registerAt w = cond (ltb w 256) (Register.Temp w) (Register.Local (w % 256))
 
--- what the program computes with, of an answer that is no refusal: an operand, a place, or a register. An answer of another kind gives a value of no
--- meaning; no contract of a step reads an answer so.
-unfoldable pub operandOf : Answer → Operand
-operandOf (Answer.Operand x) = x
-operandOf (Answer.Place p) = Operand.Nil
-operandOf (Answer.Refused e) = Operand.Nil
+-- no register, and any register
+abbrev pub none : ℕ
+none = 4294967295
 
-unfoldable pub placeOf : Answer → ℕ
-placeOf (Answer.Operand x) = 0
-placeOf (Answer.Place p) = p
-placeOf (Answer.Refused e) = 0
+abbrev pub any : ℕ
+any = 512
 
-unfoldable pub heldBy : Operand → Register
-heldBy (Operand.Register r) = r
-heldBy (Operand.Number x) = Register.Temp 0
-heldBy (Operand.String symbol) = Register.Temp 0
-heldBy (Operand.Boolean b) = Register.Temp 0
-heldBy Operand.Nil = Register.Temp 0
+unfoldable pub destOf : ℕ → Dest
+destOf w = cond (eqb w any) Dest.Any (Dest.To (registerAt w))
 
--- whether an operand is in a register
-unfoldable pub isRegister : Operand → Bool
-isRegister (Operand.Register r) = true
-isRegister (Operand.Number x) = false
-isRegister (Operand.String symbol) = false
-isRegister (Operand.Boolean b) = false
-isRegister Operand.Nil = false
+-- the number of a register that was taken, or `none`
+unfoldable pub numberAt : Place → ℕ
+numberAt (Place.At r) = r
+numberAt (Place.Refused refusal) = none
 
-abbrev pub registerOf : Answer → Register
-registerOf a = heldBy (operandOf a)
+-- in place of a register: the node is a literal, which is not pooled yet
+abbrev pub literalWord : ℕ
+literalWord = 1024
 
--- an answer beside what is left, as an outcome of answers: one-to-one
-unfoldable pub seen : Made → Answer → Outcome Answer
-seen m (Answer.Operand x) = ends (Answer.Operand x) m
-seen m (Answer.Place p) = ends (Answer.Place p) m
-seen m (Answer.Refused e) = stops e m
+-- an operand of a node: its literal, or a register
+unfoldable pub operandAt : Node → ℕ → Operand
+operandAt n w = cond (eqb w literalWord) (literal n) (Operand.Register (registerAt w))
 
--- a step's outcome, with what it gives as the program answers it
-unfoldable pub answered : {A : Type 0} → (A → Answer) → Outcome A → Outcome Answer
-answered gives (ends x m) = ends (gives x) m
-answered gives (stops e m) = stops e m
+-- where an operand is: the constant c, or a register
+unfoldable pub sourceAt : Operand → ℕ → Source
+sourceAt c w = cond (eqb w literalWord) (constant c) (register (registerAt w))
 
--- a register as an answer
-abbrev pub asRegister : Register → Answer
-asRegister r = Answer.Operand (Operand.Register r)
+-- An answer of 64 bits: a word; from 2^63 on a refusal, with its number above the place
+abbrev pub wordEnd : ℕ
+wordEnd = 4294967296
 
--- the answers of the parts below
-unfoldable pub placeAnswer : Place → Answer
-placeAnswer (Place.At p) = Answer.Place p
-placeAnswer (Place.Refused refusal) = Answer.Refused (unnamed refusal)
+abbrev pub refusalStart : ℕ
+refusalStart = 9223372036854775808
 
-unfoldable pub registerAnswer : Found → Answer
-registerAnswer (Found.At r) = Answer.Operand (Operand.Register r)
-registerAnswer (Found.Refused refusal) = Answer.Refused (unnamed refusal)
+unfoldable pub refusalWord : Refusal → ℕ → ℕ
+refusalWord refusal place = refusalStart + wordEnd * refusalNumber refusal + place
 
--- the destination, once what fills it is written
-unfoldable pub inRegister : Answer → Register → Answer
-inRegister a d = cond (refused a) a (Answer.Operand (Operand.Register d))
+unfoldable pub isRefusal : ℕ → Bool
+isRefusal a = leb refusalStart a
 
--- the end of an arm whose instruction has one operand in a register
-abbrev pub finish : Instruction → Register → Register → Walk Operand
-finish instruction d src = do
-  emit instruction
-  freeTemp src
-  ret (Operand.Register d)
+abbrev pub valueOf : ℕ → ℕ
+valueOf a = a % wordEnd
 
--- "Property: destination, object, key pooled." The destination and the object's register are there.
-abbrev pub getProperty : Register → Register → ℕ → Walk Operand
-getProperty d src property = do
-  key ← store (Operand.String property)
-  emit (Instruction.GetPropertyK (regOf d) (regOf src) key)
-  freeTemp src
-  ret (Operand.Register d)
+abbrev pub numberOfRefusal : ℕ → ℕ
+numberOfRefusal a = (a - refusalStart) / wordEnd
 
--- an entry whose key is a name: "its name is pooled after the value is lowered"
-abbrev pub setNamed : Tree → (ℕ → Dest → Walk Operand) → Register → ℕ → Operand → Walk ℕ
-setNamed t E d name value = do
-  key ← store (Operand.String name)
-  storeNamed t E d key (source value)
+-- the refusals by their numbers, from 1 on
+unfoldable pub refusalOf : ℕ → Refusal
+refusalOf n =
+    getD
+    (Refusal.Size ∷ Refusal.Size ∷ Refusal.Root ∷ Refusal.Kind ∷ Refusal.Unused ∷ Refusal.Number ∷ Refusal.List ∷ Refusal.Order ∷ Refusal.Parameters
+    ∷ Refusal.Undeclared ∷ Refusal.Registers ∷ Refusal.Else ∷ Refusal.Key ∷ Refusal.Code ∷ Refusal.Constants ∷ Refusal.Unmarked ∷ Refusal.Marks
+    ∷ Refusal.Destination ∷ Refusal.Sum ∷ Refusal.Jump ∷ [])
+    n Refusal.Jump
+
+-- "place, span: the name; likewise at 11, 12 and 15": whether a refusal names a node
+unfoldable pub namesNode : Refusal → Bool
+namesNode Refusal.Size = false
+namesNode Refusal.Root = false
+namesNode Refusal.Kind = false
+namesNode Refusal.Unused = false
+namesNode Refusal.Number = false
+namesNode Refusal.List = false
+namesNode Refusal.Order = false
+namesNode Refusal.Parameters = false
+namesNode Refusal.Undeclared = true
+namesNode Refusal.Registers = false
+namesNode Refusal.Else = true
+namesNode Refusal.Key = true
+namesNode Refusal.Code = false
+namesNode Refusal.Constants = false
+namesNode Refusal.Unmarked = true
+namesNode Refusal.Marks = false
+namesNode Refusal.Destination = false
+namesNode Refusal.Sum = false
+namesNode Refusal.Jump = false
+
+-- a refusal at a place, with the span of the node that it names
+unfoldable pub errorAt : Tree → Refusal → ℕ → Error
+errorAt t refusal place = cond (namesNode refusal) (error refusal place (spanStart t place) (spanEnd t place)) (error refusal place 0 0)
+
+-- the registers that are held after a refusal are of no account: nothing is taken any more, and no number or byte shows them
+abbrev pub settle : Made → Made
+settle m = withRegisters allFree m
+
+unfoldable pub settled : {A : Type 0} → Outcome A → Outcome A
+settled (ends x m) = ends x m
+settled (stops e m) = stops e (settle m)
+
+-- an answer beside what is left, as an outcome; `gives` reads the word. One-to-one where `gives` is.
+unfoldable pub seen : {A : Type 0} → Tree → (ℕ → A) → Made → ℕ → Outcome A
+seen t gives m a = cond (isRefusal a) (stops (errorAt t (refusalOf (numberOfRefusal a)) (valueOf a)) (settle m)) (ends (gives (valueOf a)) m)
+
+-- a place is the word itself; a step that gives nothing answers any word
+abbrev pub placeAt : ℕ → ℕ
+placeAt w = w
+
+abbrev pub unitAt : ℕ → Unit {0}
+unitAt w = tt
+
+-- the node that is left to the walk, 2^32 and the node: nothing was done
+unfoldable pub isInner : ℕ → Bool
+isInner a = eqb (a / wordEnd) 1
+
+-- the state with these counts of instructions and constants
+abbrev pub counted : RegisterSet → ℕ → ℕ → ℕ → State
+counted registers instructions constants marks = record { registers = registers; instructions = instructions; constants = constants; marks = marks }
+
+-- an answer that is a refusal, or the register d
+abbrev pub DestOrRefusal : ℕ → ℕ → Type 0
+DestOrRefusal d a = (refusalStart ≤ a) ⊎ (a ≡ d)
+
+-- an answer that is a refusal, or a register
+abbrev pub RegisterOrRefusal : ℕ → Type 0
+RegisterOrRefusal a = (refusalStart ≤ a) ⊎ (a < any)
+
+-- an answer that is a refusal, or a word
+abbrev pub WordOrRefusal : ℕ → Type 0
+WordOrRefusal a = (refusalStart ≤ a) ⊎ (a < wordEnd)

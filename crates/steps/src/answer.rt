@@ -1,124 +1,127 @@
-// One answer for every step: an operand or a register, a place, or the refusal that ends the walk.
+// What the walk answers, as one word: a register, a place, LITERAL, or a refusal with its place. A register is a temporary's number, or a local's
+// and REGISTERS more.
 ghost use mathlib.Core.Path.{_≡_};
-ghost use Rattle.steps.specs.Answers.{refused, operandOf, placeOf, heldBy, isRegister, registerOf, placeAnswer, registerAnswer, inRegister};
-use diagnostics::Error;
+ghost use Prim.Native.Nat.{_+_, _%_};
+ghost use Rattle.runtime.specs.Operands.{regOf};
+ghost use Rattle.steps.specs.Answers.{registerAt, numberAt, wordEnd, refusalWord, isRefusal, valueOf, numberOfRefusal, isInner};
 use diagnostics::Place;
 use diagnostics::Refusal;
-use environment::Found;
-use environment::Register;
 use lowering::State;
-use runtime::operand::Operand;
-
-pub enum Answer {
-    Operand(Operand),
-    Place(u32),
-    Refused(Error),
-}
 
 // The state afterwards, and the answer.
 pub struct Lowered {
     pub state: State,
-    pub answer: Answer,
+    pub answer: u64,
 }
 
-pub fn is_refused(answer: Answer) -> bool
-    ensures { λ r. ⌜ r ≡ refused answer ⌝ }
+// The counts afterwards, and the answer, of a step that takes and gives back no register.
+pub struct Emitted {
+    pub instructions: u32,
+    pub constants: u32,
+    pub answer: u64,
+}
+
+// How many registers there are.
+const REGISTERS: u32 = 256;
+
+// In place of a destination: any register will do.
+pub const ANY: u32 = 512;
+
+// In place of a register: the node is a literal, an operand that is not pooled yet.
+pub const LITERAL: u32 = 1024;
+
+// In place of a register: there is none.
+pub const NONE: u32 = 4294967295;
+
+// Answers from here on are refusals: the test is one of the sign, which the compiler takes for rare.
+const REFUSED: u64 = 0x8000_0000_0000_0000;
+
+// How many words there are.
+const WORDS: u64 = 4294967296;
+
+// The register of local `number`.
+pub fn local(number: u32) -> u32
+    ensures { λ r. ⌜ r ≡ 256 + number % 256 ⌝ }
 {
-    match answer {
-        Answer::Operand(_) => false,
-        Answer::Place(_) => false,
-        Answer::Refused(_) => true,
-    }
+    REGISTERS + number % REGISTERS
 }
 
-pub fn operand_of(answer: Answer) -> Operand
-    ensures { λ r. ⌜ r ≡ operandOf answer ⌝ }
+// The field of an instruction that says the register.
+pub fn reg_of(register: u32) -> u32
+    ensures { λ r. ⌜ r ≡ regOf (registerAt register) ⌝ }
 {
-    match answer {
-        Answer::Operand(x) => x,
-        Answer::Place(_) => Operand::Nil,
-        Answer::Refused(_) => Operand::Nil,
-    }
+    register % REGISTERS
 }
 
-pub fn place_of(answer: Answer) -> u32
-    ensures { λ r. ⌜ r ≡ placeOf answer ⌝ }
-{
-    match answer {
-        Answer::Operand(_) => 0,
-        Answer::Place(p) => p,
-        Answer::Refused(_) => 0,
-    }
-}
-
-// The register that an operand is in.
-pub fn held_by(operand: Operand) -> Register
-    ensures { λ r. ⌜ r ≡ heldBy operand ⌝ }
-{
-    match operand {
-        Operand::Register(r) => r,
-        Operand::Number(_) => Register::Temp(0),
-        Operand::String(_) => Register::Temp(0),
-        Operand::Boolean(_) => Register::Temp(0),
-        Operand::Nil => Register::Temp(0),
-    }
-}
-
-pub fn is_register(operand: Operand) -> bool
-    ensures { λ r. ⌜ r ≡ isRegister operand ⌝ }
-{
-    match operand {
-        Operand::Register(_) => true,
-        Operand::Number(_) => false,
-        Operand::String(_) => false,
-        Operand::Boolean(_) => false,
-        Operand::Nil => false,
-    }
-}
-
-pub fn register_of(answer: Answer) -> Register
-    ensures { λ r. ⌜ r ≡ registerOf answer ⌝ }
-{
-    held_by(operand_of(answer))
-}
-
-// A refusal that names no place.
-fn unnamed(refusal: Refusal) -> Answer
-    ensures { λ r. ⌜ r ≡ placeAnswer (Place.Refused refusal) ⌝ }
-{
-    Answer::Refused(Error {
-        refusal,
-        place: 0,
-        start: 0,
-        end: 0,
-    })
-}
-
-pub fn place_answer(place: Place) -> Answer
-    ensures { λ r. ⌜ r ≡ placeAnswer place ⌝ }
+// The register that was taken, or NONE.
+pub fn number_at(place: Place) -> u32
+    ensures { λ r. ⌜ r ≡ numberAt place ⌝ }
 {
     match place {
-        Place::At(p) => Answer::Place(p),
-        Place::Refused(refusal) => unnamed(refusal),
+        Place::At(r) => r,
+        Place::Refused(_) => NONE,
     }
 }
 
-pub fn register_answer(found: Found) -> Answer
-    ensures { λ r. ⌜ r ≡ registerAnswer found ⌝ }
+// The node is left to the walk.
+pub fn inner(node: u32) -> u64
+    ensures { λ r. ⌜ r ≡ wordEnd + node ⌝ }
 {
-    match found {
-        Found::At(r) => Answer::Operand(Operand::Register(r)),
-        Found::Refused(refusal) => unnamed(refusal),
-    }
+    WORDS + (node as u64)
 }
 
-// The destination, once what fills it is written.
-pub fn in_register(answer: Answer, d: Register) -> Answer
-    ensures { λ r. ⌜ r ≡ inRegister answer d ⌝ }
+pub fn is_inner(answer: u64) -> bool
+    ensures { λ r. ⌜ r ≡ isInner answer ⌝ }
 {
-    if is_refused(answer) {
-        answer
+    answer / WORDS == 1
+}
+
+pub fn refusal_at(refusal: Refusal, place: u32) -> u64
+    ensures { λ r. ⌜ r ≡ refusalWord refusal place ⌝ }
+{
+    REFUSED + WORDS * (refusal.number() as u64) + (place as u64)
+}
+
+pub fn is_refusal(answer: u64) -> bool
+    ensures { λ r. ⌜ r ≡ isRefusal answer ⌝ }
+{
+    REFUSED <= answer
+}
+
+// The number of a refusal.
+pub fn number_of(answer: u64) -> u32
+    ensures { λ r. ⌜ r ≡ numberOfRefusal answer ⌝ }
+{
+    if REFUSED <= answer {
+        ((answer - REFUSED) / WORDS) as u32
     } else {
-        Answer::Operand(Operand::Register(d))
+        0
+    }
+}
+
+// The register or the place that an answer is, or that a refusal names.
+pub fn value_of(answer: u64) -> u32
+    ensures { λ r. ⌜ r ≡ valueOf answer ⌝ }
+{
+    (answer % WORDS) as u32
+}
+
+pub fn answered(state: State, value: u32) -> Lowered
+    ensures state { λ r. ⌜ r .state ≡ state ⌝ }
+    ensures answer { λ r. ⌜ r .answer ≡ value ⌝ }
+{
+    Lowered {
+        state,
+        answer: value as u64,
+    }
+}
+
+pub fn refused(state: State, refusal: Refusal, place: u32) -> Lowered
+    ensures state { λ r. ⌜ r .state ≡ state ⌝ }
+    ensures answer { λ r. ⌜ r .answer ≡ refusalWord refusal place ⌝ }
+{
+    Lowered {
+        state,
+        answer: refusal_at(refusal, place),
     }
 }

@@ -1,10 +1,4 @@
-// The steps of the walk that call nothing of it, on the state by value and the buffer that each writes.
+// The steps of the walk that look at no node: answers, destinations, constants, and the end of an operator.
 pub mod answer;
-pub mod binary;
-pub mod jump;
-pub mod kinds;
-pub mod mark;
-pub mod name;
-pub mod property;
-pub mod single;
+pub mod sources;
 pub mod step;

@@ -1,172 +1,100 @@
-// The steps: registers, code, constants and marks. Each contract equates the outcome with that of the definition's step, whatever stands in the
-// buffers that it does not touch.
+// The steps on the state: a destination, and a constant loaded. Each contract equates the outcome with that of the definition's step, whatever stands in
+// the buffers that it does not touch.
 ghost use mathlib.Core.Path.{_≡_};
 ghost use mathlib.Core.List.{List};
-ghost use Prim.Native.Nat.{ℕ};
+ghost use Prim.Native.Nat.{ℕ, _-_, _≤_};
 ghost use Rattle.words.specs.Words.{words, tail};
-ghost use Rattle.lowering.specs.Walk.{made, ends};
-ghost use Rattle.lowering.specs.Steps.{freeTemp, destination, emit, store, loadConstant};
-ghost use Rattle.lowering.specs.Lower.{source, materialized};
-ghost use Rattle.steps.specs.Answers.{seen, answered, asRegister, finish};
-use crate::answer::Answer;
+ghost use Rattle.lowering.specs.Tree.{Tree};
+ghost use Rattle.lowering.specs.Walk.{made};
+ghost use Rattle.lowering.specs.Steps.{destination, loadConstant, withOffset};
+ghost use Rattle.steps.specs.Answers.{registerAt, any, destOf, settled, seen, RegisterOrRefusal};
+use crate::answer::ANY;
 use crate::answer::Lowered;
-use crate::answer::in_register;
-use crate::answer::is_refused;
-use crate::answer::place_answer;
-use crate::answer::place_of;
-use crate::answer::register_answer;
-use crate::answer::register_of;
-use environment::Register;
-use lowering::Dest;
+use crate::answer::NONE;
+use crate::answer::answered;
+use crate::answer::is_refusal;
+use crate::answer::number_at;
+use crate::answer::refused;
+use crate::answer::reg_of;
+use crate::answer::value_of;
+use diagnostics::Refusal;
+use lower_ast::put_offset;
 use lowering::State;
 use runtime::function::emit_instruction;
 use runtime::function::store_constant;
-use runtime::instruction::Instruction;
+use runtime::opcode;
 use runtime::operand::Operand;
-use runtime::operands::reg_of;
+use words::FULL;
+use words::counted;
 
-// The register asked for, else a temporary, which is taken.
-pub fn destination(state: State, dest: Dest) -> Lowered
-    ensures { λ r. ⌜ ((k p m : List ℕ) → answered asRegister (destination dest (made k p m state)) ≡ seen (made k p m (r .state)) (r .answer)) ⌝ }
+// The register asked for, else the smallest free one, which is taken.
+pub fn destination(state: State, dest: u32) -> Lowered
+    ensures step { λ r. ⌜ ((t : Tree) (k p m : List ℕ) → settled (destination (destOf dest) (made k p m state)) ≡ seen t registerAt (made k p m (r .state)) (r .answer)) ⌝ }
+    ensures word { λ r. ⌜ (dest ≤ any → RegisterOrRefusal (r .answer)) ⌝ }
 {
-    match dest {
-        Dest::To(register) => Lowered {
-            state,
-            answer: Answer::Operand(Operand::Register(register)),
-        },
-        Dest::Any => {
-            let registers = state.registers;
-            let allocated = registers.allocate_temp();
-            let set = allocated.set;
-            let found = allocated.register;
-            let mut s = state;
-            s.registers = set;
-            let answer = register_answer(found);
-            Lowered { state: s, answer }
-        }
+    if dest != ANY {
+        return answered(state, dest);
     }
-}
-
-// Gives a temporary back.
-pub fn free_temp(state: State, register: Register) -> State
-    ensures { λ r. ⌜ ((k p m : List ℕ) → freeTemp register (made k p m state) ≡ ends tt (made k p m r)) ⌝ }
-{
-    let registers = state.registers;
-    let freed = registers.free_temp(register);
     let mut s = state;
-    s.registers = freed;
-    s
+    let registers = s.registers;
+    let taken = registers.take();
+    let set = taken.set;
+    let place = taken.place;
+    let register = number_at(place);
+    if register == NONE {
+        return refused(s, Refusal::Registers, 0);
+    }
+    s.registers = set;
+    answered(s, register)
 }
 
-// The place of a new instruction.
-pub fn emit(code: &mut [u8], state: State, instruction: Instruction) -> Lowered
-    ensures step { λ r. ⌜ ((p m : List ℕ) → answered Answer.Place (emit instruction (made (words (now (code .entry))) p m state))
-        ≡ seen (made (words (now (code .exit))) p m (r .state)) (r .answer)) ⌝ }
-    ensures tail { λ r. ⌜ tail (now (code .exit)) ≡ tail (now (code .entry)) ⌝ }
-{
-    let made = emit_instruction(code, state.instructions, instruction);
-    let place = made.place;
-    let mut s = state;
-    s.instructions = made.count;
-    let answer = place_answer(place);
-    Lowered { state: s, answer }
-}
-
-// The place of a constant in the pool.
-pub fn store(constants: &mut [u8], state: State, constant: Operand) -> Lowered
-    ensures step { λ r. ⌜ ((k m : List ℕ) → answered Answer.Place (store constant (made k (words (now (constants .entry))) m state))
-        ≡ seen (made k (words (now (constants .exit))) m (r .state)) (r .answer)) ⌝ }
-    ensures tail { λ r. ⌜ tail (now (constants .exit)) ≡ tail (now (constants .entry)) ⌝ }
-{
-    let made = store_constant(constants, state.constants, constant);
-    let place = made.place;
-    let mut s = state;
-    s.constants = made.count;
-    let answer = place_answer(place);
-    Lowered { state: s, answer }
-}
-
-// A constant loaded into the destination.
+// Destination, pool, LoadConst.
 pub fn load_constant(
     code: &mut [u8],
     constants: &mut [u8],
     state: State,
     constant: Operand,
-    dest: Dest,
+    dest: u32,
 ) -> Lowered
-    ensures step { λ r. ⌜ ((m : List ℕ) → answered asRegister (loadConstant constant dest (made (words (now (code .entry))) (words (now (constants .entry))) m state))
-        ≡ seen (made (words (now (code .exit))) (words (now (constants .exit))) m (r .state)) (r .answer)) ⌝ }
+    ensures step { λ r. ⌜ ((t : Tree) (m : List ℕ) → settled (loadConstant constant (destOf dest) (made (words (now (code .entry))) (words (now (constants .entry))) m state))
+        ≡ seen t registerAt (made (words (now (code .exit))) (words (now (constants .exit))) m (r .state)) (r .answer)) ⌝ }
     ensures code { λ r. ⌜ tail (now (code .exit)) ≡ tail (now (code .entry)) ⌝ }
     ensures constants { λ r. ⌜ tail (now (constants .exit)) ≡ tail (now (constants .entry)) ⌝ }
+    ensures word { λ r. ⌜ (dest ≤ any → RegisterOrRefusal (r .answer)) ⌝ }
 {
-    let mut r = destination(state, dest);
-    let a1 = r.answer;
-    if is_refused(a1) {
+    let r = destination(state, dest);
+    if is_refusal(r.answer) {
         return r;
     }
-    let s1 = r.state;
-    r = store(constants, s1, constant);
-    let a2 = r.answer;
-    if is_refused(a2) {
-        return r;
+    let d = value_of(r.answer);
+    let mut s = r.state;
+    let k = store_constant(constants, s.constants, constant);
+    if k == FULL {
+        return refused(s, Refusal::Constants, 0);
     }
-    let s2 = r.state;
-    let k = place_of(a2);
-    let d = register_of(a1);
-    let to = reg_of(d);
-    r = emit(code, s2, Instruction::LoadConst { dest: to, src: k });
-    let a3 = r.answer;
-    let s3 = r.state;
-    let answer = in_register(a3, d);
-    Lowered { state: s3, answer }
+    s.constants = counted(s.constants, k);
+    let n = emit_instruction(code, s.instructions, opcode::LOAD_CONST, reg_of(d), k, 0);
+    if n == FULL {
+        return refused(s, Refusal::Code, 0);
+    }
+    s.instructions = counted(s.instructions, n);
+    answered(s, d)
 }
 
-// An operand in a register: a constant is loaded.
-pub fn materialized(
-    code: &mut [u8],
-    constants: &mut [u8],
-    state: State,
-    operand: Operand,
-    dest: Dest,
-) -> Lowered
-    ensures step { λ r. ⌜ ((m : List ℕ) → answered asRegister (materialized (source operand) dest (made (words (now (code .entry))) (words (now (constants .entry))) m state))
-        ≡ seen (made (words (now (code .exit))) (words (now (constants .exit))) m (r .state)) (r .answer)) ⌝ }
-    ensures code { λ r. ⌜ tail (now (code .exit)) ≡ tail (now (code .entry)) ⌝ }
-    ensures constants { λ r. ⌜ tail (now (constants .exit)) ≡ tail (now (constants .entry)) ⌝ }
+// How far it is from a place to a later one.
+fn distance(place: u32, next: u32) -> u32
+    ensures { λ r. ⌜ r ≡ next - place ⌝ }
 {
-    match operand {
-        Operand::Register(_) => Lowered {
-            state,
-            answer: Answer::Operand(operand),
-        },
-        Operand::Number(_) => load_constant(code, constants, state, operand, dest),
-        Operand::String(_) => load_constant(code, constants, state, operand, dest),
-        Operand::Boolean(_) => load_constant(code, constants, state, operand, dest),
-        Operand::Nil => load_constant(code, constants, state, operand, dest),
+    if place <= next {
+        return next - place;
     }
+    0
 }
 
-// One instruction, and then its operand's register given back.
-pub fn finish(
-    code: &mut [u8],
-    state: State,
-    instruction: Instruction,
-    d: Register,
-    src: Register,
-) -> Lowered
-    ensures step { λ r. ⌜ ((p m : List ℕ) → answered Answer.Operand (finish instruction d src (made (words (now (code .entry))) p m state))
-        ≡ seen (made (words (now (code .exit))) p m (r .state)) (r .answer)) ⌝ }
-    ensures tail { λ r. ⌜ tail (now (code .exit)) ≡ tail (now (code .entry)) ⌝ }
+// The jump at `place` goes to the instruction `next`.
+pub fn patch_to_next(code: &mut [u8], place: u32, next: u32)
+    ensures words { λ _. ⌜ words (now (code .exit)) ≡ withOffset (words (now (code .entry))) place (next - place) ⌝ }
+    ensures tail { λ _. ⌜ tail (now (code .exit)) ≡ tail (now (code .entry)) ⌝ }
 {
-    let r = emit(code, state, instruction);
-    let a = r.answer;
-    if is_refused(a) {
-        return r;
-    }
-    let s = r.state;
-    let freed = free_temp(s, src);
-    Lowered {
-        state: freed,
-        answer: Answer::Operand(Operand::Register(d)),
-    }
+    put_offset(code, place, distance(place, next));
 }

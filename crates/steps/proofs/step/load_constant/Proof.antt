@@ -1,89 +1,100 @@
 -- `steps::step::load_constant` meets its contract: its do-block, a step a line. Assumes nothing.
 use mathlib.Core.Path.{refl, sym, _∙_}
-use Rattle.lowering.specs.Steps.{loadConstant}
-use Rattle.steps.specs.declared.answer.Answer.{Answer}
-use Rattle.steps.proofs.Chains.{then-register, then-place, stop-refused, register-after}
+use mathlib.Core.Logic.{inl, inr}
+use native.Mathlib.Omega.{arith}
 use borrow.Author.Needs.{needs}
+use Rattle.diagnostics.specs.declared.Refusal.{Refusal}
+use Rattle.runtime.specs.Instruction.{wordsOf}
+use Rattle.lowering.specs.Steps.{loadConstant}
+use Rattle.steps.specs.Answers.{registerAt, settled}
+use Rattle.steps.proofs.Words.{refusal-start, register-value}
+use Rattle.steps.proofs.Chains.{seen-word, then-by, stop-by, then-stored, stop-stored, then-emitted, stop-emitted}
 use Rattle.steps.proofs.step.load_constant.Statement.{statement}
 use Rattle.steps.proofs.step.load_constant.Tie as tie
-
-destination-requires : tie.Need-destination-requires
-destination-requires c κs = search needs
-
-is-refused-requires : tie.Need-is-refused-requires
-is-refused-requires c κs = search needs
 
 returns : tie.Need-returns
 unfolding loadConstant
 returns c =
-    ((λ m. stop-refused _ _ _ _ _ _ (c .before .before .destination .ensures _ _ _) (sym (c .before .is-refused .ensures) ∙ c .if1 .taken)), (refl, refl))
-
-store-requires : tie.Need-store-requires
-store-requires c κs = search needs
-
-is-refused-requires-2 : tie.Need-is-refused-requires-2
-is-refused-requires-2 c κs = search needs
-
-same-length : tie.Need-same-length
-same-length c = search needs
+    let destination = c .before .before .destination .ensures in
+    ((λ t m. stop-by t _ registerAt _ _ _ (destination .0 t _ _ _) registerAt (c .before .is-refusal .ensures) (c .if1 .taken)), (refl, (refl, destination .1)))
 
 returns-2 : tie.Need-returns-2
 unfolding loadConstant
-returns-2 c = (
-  (λ m.
-      then-register _ _ _ _ _ (c .before .before .before .before .before .before .before .before .before .destination .ensures _ _ _) (sym (c .before .before .before .before .before .before .before .before .is-refused .ensures) ∙ c .before .before .before .before .before .before .before .if1 .left)
-      (stop-refused _ _ _ _ _ _ (c .before .before .before .before .store .ensures .0 _ _) (sym (c .before .is-refused2 .ensures) ∙ c .if2 .taken))),
-  (refl, c .before .before .before .before .store .ensures .1),
-)
-
-place-of-requires : tie.Need-place-of-requires
-place-of-requires c κs = search needs
-
-register-of-requires : tie.Need-register-of-requires
-register-of-requires c κs = search needs
-
-reg-of-requires : tie.Need-reg-of-requires
-reg-of-requires c κs = search needs
-
-emit-requires : tie.Need-emit-requires
-emit-requires c κs = search needs
-
-in-register-requires : tie.Need-in-register-requires
-in-register-requires c κs = search needs
-
-same-length-2 : tie.Need-same-length-2
-same-length-2 c = search needs
-
-same-length-3 : tie.Need-same-length-3
-same-length-3 c = search needs
+returns-2 c =
+    let at-stored = c .before .before .before .before in
+    let at-value = at-stored .before .before .before in
+    let at-asked = at-value .before .before in
+    let destination = at-asked .before .destination .ensures in
+    let pooled = at-stored .store-constant .ensures in
+    rw (c .refused .ensures .0, c .refused .ensures .1) (
+      (λ t m.
+          then-by t _ registerAt _ _ _ (destination .0 t _ _ _) (at-asked .is-refusal .ensures) (at-value .before .if1 .left) (at-value .value-of .ensures)
+          (stop-stored t _ _ _ _ (pooled .0) registerAt (c .before .if2 .taken))),
+      (refl, (pooled .1, (λ h. inl (refusal-start Refusal.Constants 0)))),
+    )
 
 returns-3 : tie.Need-returns-3
-unfolding loadConstant
-returns-3 c = (
-  (λ m.
-      then-register _ _ _ _ _ (c .before .before .before .before .before .before .before .before .before .before .before .before .before .before .before .before .before .before .before .destination .ensures _ _ _) (sym (c .before .before .before .before .before .before .before .before .before .before .before .before .before .before .before .before .before .before .is-refused .ensures) ∙ c .before .before .before .before .before .before .before .before .before .before .before .before .before .before .before .before .before .if1 .left)
-      (then-place _ _ _ _ _ (c .before .before .before .before .before .before .before .before .before .before .before .before .before .before .store .ensures .0 _ _) (sym (c .before .before .before .before .before .before .before .before .before .before .before .is-refused2 .ensures) ∙ c .before .before .before .before .before .before .before .before .before .before .if2 .left)
-      (rw (c .in-register .ensures, c .before .before .before .before .before .before .before .register-of .ensures)
-      (register-after Answer.Place _ _ _ _ (rw (← c .before .before .before .before .before .before .before .before .place-of .ensures, ← c .before .before .before .before .before .before .before .register-of .ensures, ← c .before .before .before .before .before .before .reg-of .ensures) (c .before .before .before .before .emit .ensures .0 _ _)))))),
-  (c .before .before .before .before .emit .ensures .1, c .before .before .before .before .before .before .before .before .before .before .before .before .before .before .store .ensures .1),
-)
+unfolding loadConstant wordsOf
+returns-3 c =
+    let at-emitted = c .before .before .before .before in
+    let at-counted = at-emitted .before .before .before in
+    let at-stored = at-counted .before .before .before .before in
+    let at-value = at-stored .before .before .before in
+    let at-asked = at-value .before .before in
+    let destination = at-asked .before .destination .ensures in
+    let pooled = at-stored .store-constant .ensures in
+    let emitted = at-emitted .emit-instruction .ensures in
+    let left = rw (at-emitted .before .reg-of .ensures) at (emitted .0) in
+    rw (c .refused2 .ensures .0, c .refused2 .ensures .1) (
+      (λ t m.
+          then-by t _ registerAt _ _ _ (destination .0 t _ _ _) (at-asked .is-refusal .ensures) (at-value .before .if1 .left) (at-value .value-of .ensures)
+          (then-stored t _ _ _ _ (pooled .0) (at-counted .before .if2 .left) (at-counted .counted .ensures Refusal.Constants)
+          (stop-emitted t _ _ _ _ refl left registerAt (c .before .if3 .taken)))),
+      (emitted .1, (pooled .1, (λ h. inl (refusal-start Refusal.Code 0)))),
+    )
+
+returns-4 : tie.Need-returns-4
+unfolding loadConstant wordsOf settled
+returns-4 c =
+    let at-emitted = c .before .before .before .before .before in
+    let at-counted = at-emitted .before .before .before in
+    let at-stored = at-counted .before .before .before .before in
+    let at-value = at-stored .before .before .before in
+    let at-asked = at-value .before .before in
+    let destination = at-asked .before .destination .ensures in
+    let pooled = at-stored .store-constant .ensures in
+    let emitted = at-emitted .emit-instruction .ensures in
+    let left = rw (at-emitted .before .reg-of .ensures) at (emitted .0) in
+    rw (c .answered .ensures .0, c .answered .ensures .1) (
+      (λ t m.
+          then-by t _ registerAt _ _ _ (destination .0 t _ _ _) (at-asked .is-refusal .ensures) (at-value .before .if1 .left) (at-value .value-of .ensures)
+          (then-stored t _ _ _ _ (pooled .0) (at-counted .before .if2 .left) (at-counted .counted .ensures Refusal.Constants)
+          (then-emitted t _ _ _ _ refl left (c .before .before .if3 .left) (c .before .counted2 .ensures Refusal.Code)
+          (sym (seen-word t registerAt _ _ (omega arith)))))),
+      (emitted .1, (pooled .1, (λ h. inr (rw (at-value .value-of .ensures) (register-value _ (sym (at-asked .is-refusal .ensures) ∙ at-value .before .if1 .left) (destination .1 h)))))),
+    )
 
 pub load-constant-spec : {M : Type 1} → statement M
 load-constant-spec =
     tie.close
     (tie.spec
-    destination-requires
-    is-refused-requires
+    (λ c κs. search needs)
+    (λ c κs. search needs)
     returns
-    store-requires
-    is-refused-requires-2
-    same-length
+    (λ c κs. search needs)
+    (λ c κs. search needs)
+    (λ c κs. search needs)
+    (λ c. search needs)
     returns-2
-    place-of-requires
-    register-of-requires
-    reg-of-requires
-    emit-requires
-    in-register-requires
-    same-length-2
-    same-length-3
-    returns-3)
+    (λ c κs. search needs)
+    (λ c κs. search needs)
+    (λ c κs. search needs)
+    (λ c κs. search needs)
+    (λ c. search needs)
+    (λ c. search needs)
+    returns-3
+    (λ c κs. search needs)
+    (λ c κs. search needs)
+    (λ c. search needs)
+    (λ c. search needs)
+    returns-4)
