@@ -2,73 +2,114 @@
 use Prim.Native.Nat.{ℕ, zero, suc, _+_, _*_, _/_, _≤_, _<_}
 use native.Mathlib.Omega.{arith}
 use mathlib.Core.Path.{_≡_, refl, sym, _∙_, ap}
-use mathlib.Core.Bool.{Bool, true, false}
-use mathlib.Core.List.{List, _++_}
-use lib.ListN.{length, getD, take, drop}
-use borrow.Author.Tests.{leb-true}
+use mathlib.Core.Logic.{_⊎_, inl, inr}
+use mathlib.Core.Bool.{Bool, true, false, cond}
+use mathlib.Core.List.{List, [], _∷_, _++_}
+use lib.Dec.{leb}
+use lib.ListN.{length, getD, take, drop, List·getD-eq-default}
+use borrow.Author.Tests.{leb-true, ltb-true}
 use Rattle.words.specs.Words.{words, tail, bytesOf}
 use Rattle.words.proofs.Words.{length-words, bytes-words}
 use Rattle.diagnostics.specs.declared.Refusal.{Refusal}
+use Rattle.diagnostics.specs.Refusal.{refusalNumber}
 use Rattle.environment.specs.declared.RegisterSet.{RegisterSet}
 use Rattle.environment.specs.Environment.{parameters}
-use Rattle.syntax.specs.declared.ast.Node.{Node}
 use Rattle.lowering.specs.Checked.{Checked}
 use Rattle.lower_ast.specs.declared.Patched.{Patched}
 use Rattle.lower_ast.specs.Arguments.{seenDone}
 use Rattle.lowering.specs.declared.State.{State}
-use Rattle.lowering.specs.Tree.{Tree, treeOf, node}
-use Rattle.lowering.specs.Questions.{question8, passed, refused, questions}
-use Rattle.lowering.specs.Walk.{Made, made, Outcome, ends, stops, Walk, bind, ret}
-use Rattle.lowering.specs.Steps.{freeTemp, patchArguments}
-use Rattle.lowering.specs.Lower.{lowerExpression, lowerJumpIfFalse, lowerJumpIfTrue, jumpNode}
+use Rattle.lowering.specs.Tree.{Tree, treeOf, spanStart, spanEnd}
+use Rattle.lowering.specs.Questions.{question2, question8, passed, refused, questions}
+use Rattle.lowering.specs.Walk.{Made, made, Outcome, ends, stops, bind, ret, error}
+use Rattle.lowering.specs.Steps.{freeTemp, patchMarks}
+use Rattle.lowering.specs.Lower.{lowerExpression}
 use Rattle.lowering.specs.Result as definition
-use Rattle.lowering.proofs.Questions.Checked.{questions-passed}
+use Rattle.lowering.proofs.Questions.Checked.{and-right, questions-passed}
 use Rattle.lowering.proofs.Bound.Lowering.{jump-false-at, jump-true-at}
-use Rattle.steps.specs.declared.answer.Answer.{Answer}
-use Rattle.steps.specs.declared.kinds.Condition.{Condition}
-use Rattle.steps.specs.Answers.{seen, answered}
-use Rattle.steps.specs.Kinds.{conditionOf}
-use Rattle.steps.proofs.Chains.{seen-one-to-one}
-use Rattle.steps.proofs.Conditions.{jumpBy, jump-by}
+use Rattle.lowering.proofs.Destinations.{patch-refusals}
+use Rattle.steps.specs.Answers.{placeAt, refusalWord, refusalOf, namesNode, errorAt, settle, settled, seen, isRefusal, valueOf, numberOfRefusal, wordEnd}
+use Rattle.steps.proofs.Chains.{seen-word, seen-refusal}
 use Rattle.codegen.specs.Ready.{Ready}
-use Rattle.codegen.specs.Numbers.{refusedResult, resultOf, conditional}
+use Rattle.codegen.specs.Numbers.{refusedResult, conditional}
 use Rattle.codegen.proofs.Lent.{lent-words, lent-back}
 
--- a condition that was read
-pub jump-of : (t : Tree) (i : ℕ) (sense : Bool) {kind : Node} {condition is : Condition} → kind ≡ node t i → condition ≡ conditionOf kind → condition ≡ is →
-    (m : Made) {r : Outcome Answer} → answered Answer.Place (jumpBy t (lowerExpression freeTemp t) sense (lowerExpression freeTemp t i) is m) ≡ r →
-    answered Answer.Place (jumpNode t (lowerExpression freeTemp t) sense (lowerExpression freeTemp t i) (node t i) m) ≡ r
-jump-of t i sense read told same m q = rw (jump-by t (lowerExpression freeTemp t) sense (lowerExpression freeTemp t i) (node t i), ← read, ← told, same) q
-
 -- the root, by its mode
-module _ {t : Tree} (checked : Checked t) (root : ℕ) (m : Made) {r : Outcome Answer} where
-  pub mode-false : answered Answer.Place (conditional t false root m) ≡ r → answered Answer.Place (definition.lowerRoot freeTemp t 1 root m) ≡ r
+module _ {t : Tree} (checked : Checked t) (root : ℕ) (m : Made) {r : Outcome ℕ} where
+  pub mode-false : settled (conditional t false root m) ≡ r → settled (definition.lowerRoot freeTemp t 1 root m) ≡ r
   unfolding definition.lowerRoot
   mode-false q = rw (jump-false-at checked root) q
 
-  pub mode-true : (mode : ℕ) → 1 < mode → answered Answer.Place (conditional t true root m) ≡ r → answered Answer.Place (definition.lowerRoot freeTemp t mode root m) ≡ r
+  pub mode-true : (mode : ℕ) → 1 < mode → settled (conditional t true root m) ≡ r → settled (definition.lowerRoot freeTemp t mode root m) ≡ r
   unfolding definition.lowerRoot
   mode-true zero h q = absurd (omega arith)
   mode-true (suc zero) h q = absurd (omega arith)
   mode-true (suc (suc mode)) h q = rw (jump-true-at t root) q
 
 -- the arguments, patched or refused, and then the answer
-pub patched-done : (o : Outcome Unit) (m : Made) (place : ℕ) (p : Patched) → o ≡ seenDone p m → p ≡ Patched.Done →
-    answered Answer.Place (bind o (λ x. ret place)) ≡ seen m (Answer.Place place)
-unfolding seenDone bind answered seen
-patched-done o m place p e same = rw (e, same)
+module _ (t : Tree) (n : ℕ) (m m′ : Made) (place : ℕ) (p : Patched) (e : patchMarks n 0 m ≡ seenDone p m′) where
+  pub patched-done : p ≡ Patched.Done → place < wordEnd → settled (bind (patchMarks n 0 m) (λ x. ret place)) ≡ seen t placeAt m′ place
+  unfolding seenDone bind settled
+  patched-done same few = rw (e, same) (sym (seen-word t placeAt m′ place few))
 
-pub patched-refused : (o : Outcome Unit) (m : Made) (place : ℕ) (p : Patched) {refusal : _} {at : ℕ} → o ≡ seenDone p m → p ≡ Patched.Refused refusal at →
-    answered Answer.Place (bind o (λ x. ret place)) ≡ seen m (Answer.Refused (record { refusal = refusal; place = at; start = 0; end = 0 }))
-unfolding seenDone bind answered seen
-patched-refused o m place p e same = rw (e, same)
+  pub patched-refused : {refusal : Refusal} {at : ℕ} → p ≡ Patched.Refused refusal at → at < wordEnd →
+      settled (bind (patchMarks n 0 m) (λ x. ret place)) ≡ seen t placeAt m′ (refusalWord refusal at)
+  unfolding seenDone bind settled errorAt namesNode
+  patched-refused {refusal} {at} same few =
+      let stopped : patchMarks n 0 m ≡ stops (error refusal at 0 0) m′ = rw (e, same) in
+      let none : namesNode refusal ≡ false = no-node (patch-refusals n 0 m (error refusal at 0 0) m′ stopped .refusal) in
+      rw (e, same) (sym (rw none at (seen-refusal t placeAt m′ refusal at few)))
+    where
+      no-node : (refusal ≡ Refusal.Destination) ⊎ (refusal ≡ Refusal.Sum) → namesNode refusal ≡ false
+      no-node (inl h) = rw h
+      no-node (inr h) = rw h
 
--- the numbers and the buffers of a walk, by the program's answer
-pub numbered : (arity : ℕ) (o : Outcome ℕ) (m : Made) (a : Answer) → answered Answer.Place o ≡ seen m a →
-    definition.answered arity o ≡ definition.leaves (resultOf arity (m .state) a) m
-unfolding definition.answered resultOf answered seen
-numbered arity (ends p m′) m a e = let same = seen-one-to-one m′ m (Answer.Place p) a e in rw (← same .0, ← same .1)
-numbered arity (stops f m′) m a e = let same = seen-one-to-one m′ m (Answer.Refused f) a e in rw (← same .0, ← same .1)
+-- the numbers and the buffers of a walk: the registers of a refusal do not show
+pub numbered : (arity : ℕ) (o : Outcome ℕ) → definition.answered arity (settled o) ≡ definition.answered arity o
+unfolding definition.answered settled
+numbered arity (ends p m) = refl
+numbered arity (stops e m) = refl
+
+-- past the last number it is the last refusal
+pub past : (n : ℕ) → 20 ≤ n → refusalOf n ≡ Refusal.Jump
+unfolding refusalOf
+past n h =
+    List·getD-eq-default
+    (Refusal.Size ∷ Refusal.Size ∷ Refusal.Root ∷ Refusal.Kind ∷ Refusal.Unused ∷ Refusal.Number ∷ Refusal.List ∷ Refusal.Order ∷ Refusal.Parameters
+    ∷ Refusal.Undeclared ∷ Refusal.Registers ∷ Refusal.Else ∷ Refusal.Key ∷ Refusal.Code ∷ Refusal.Constants ∷ Refusal.Unmarked ∷ Refusal.Marks
+    ∷ Refusal.Destination ∷ Refusal.Sum ∷ Refusal.Jump ∷ [])
+    Refusal.Jump h
+
+-- the eight numbers of a refusal, and of a place
+module _ (arity : ℕ) (t : Tree) (m : Made) (a : ℕ) where
+  pub result-refused : {number place start end : ℕ} → isRefusal a ≡ true → number ≡ refusalNumber (refusalOf (numberOfRefusal a)) → place ≡ valueOf a →
+      start ≡ cond (namesNode (refusalOf (numberOfRefusal a))) (spanStart t (valueOf a)) 0 → end ≡ cond (namesNode (refusalOf (numberOfRefusal a))) (spanEnd t (valueOf a)) 0 →
+      definition.result number place start end (m .state .instructions) (m .state .constants) 0 0 ≡ definition.answered arity (seen t placeAt m a) .result
+  unfolding definition.answered seen errorAt
+  result-refused h n p s e = rw (h, n, p, s, e) (go (namesNode (refusalOf (numberOfRefusal a))))
+    where
+      go : (b : Bool) →
+          definition.result (refusalNumber (refusalOf (numberOfRefusal a))) (valueOf a) (cond b (spanStart t (valueOf a)) 0) (cond b (spanEnd t (valueOf a)) 0) (m .state .instructions) (m .state .constants) 0 0
+          ≡ definition.answered arity (stops (cond b (error (refusalOf (numberOfRefusal a)) (valueOf a) (spanStart t (valueOf a)) (spanEnd t (valueOf a))) (error (refusalOf (numberOfRefusal a)) (valueOf a) 0 0)) (settle m)) .result
+      go true = refl
+      go false = refl
+
+  pub result-placed : {place : ℕ} → isRefusal a ≡ false → place ≡ valueOf a →
+      definition.result 0 place 0 0 (m .state .instructions) (m .state .constants) (m .state .registers .«frame_size») arity ≡ definition.answered arity (seen t placeAt m a) .result
+  unfolding definition.answered seen
+  result-placed h p = rw (h, p)
+
+-- the buffers are those that are seen
+buffers : (arity : ℕ) (t : Tree) (m : Made) (a : ℕ) →
+    (definition.answered arity (seen t placeAt m a) .code ≡ m .code)
+    × ((definition.answered arity (seen t placeAt m a) .constants ≡ m .constants) × (definition.answered arity (seen t placeAt m a) .marks ≡ m .marks))
+unfolding definition.answered seen
+buffers arity t m a = go (isRefusal a) refl
+  where
+    go : (b : Bool) → isRefusal a ≡ b →
+        (definition.answered arity (seen t placeAt m a) .code ≡ m .code)
+        × ((definition.answered arity (seen t placeAt m a) .constants ≡ m .constants) × (definition.answered arity (seen t placeAt m a) .marks ≡ m .marks))
+    go true h = (rw h, (rw h, rw h))
+    go false h = (rw h, (rw h, rw h))
 
 -- a buffer s was lent up to n, and t came back
 pub record Lent (s t : List ℕ) (n : ℕ) : Type 0 where
@@ -101,29 +142,38 @@ module _ (nodes list names : List ℕ) (mode root : ℕ) where
     not-lowered c p m told = (rw nothing told, (rw nothing (sym (bytes-words code c)), (rw nothing (sym (bytes-words constants p)), rw nothing (sym (bytes-words marks m)))))
 
   module _ (yes : questions nodes list names mode root ≡ passed) where
-    pub ready : (arity : ℕ) → arity ≡ length names / 4 → Ready nodes list names arity
-    ready arity h = (questions-passed nodes list names mode root .0 yes .checked, h ∙ sym (length-words names))
+    pub checked : Checked (treeOf nodes list names)
+    checked = questions-passed nodes list names mode root .0 yes .checked
 
     pub few : length names / 4 ≤ 256
     unfolding question8
     few = rw (length-words names) at (leb-true (length (words names)) 256 (questions-passed nodes list names mode root .0 yes .parameters))
 
+    -- the root is a node, and there are few names
+    pub ready : Ready nodes list names root
+    unfolding question2 question8
+    ready =
+        let passes = questions-passed nodes list names mode root .0 yes in
+        (passes .checked, (leb-true (length (words names)) 256 (passes .parameters), ltb-true root _ (and-right (leb mode 2) _ (passes .start))))
+
     module _ {code c constants p marks m : List ℕ} {nc np nm : ℕ} (lc : Lent code c nc) (lp : Lent constants p np) (lm : Lent marks m nm)
-        (arity : ℕ) (h : arity ≡ length names / 4) (registers : RegisterSet) (fresh : registers ≡ parameters arity) (s : State) (a : Answer)
-        (e : answered Answer.Place (definition.lowerRoot freeTemp (treeOf nodes list names) mode root
+        (arity : ℕ) (h : arity ≡ length names / 4) (registers : RegisterSet) (fresh : registers ≡ parameters arity) (s : State) (a : ℕ)
+        (e : settled (definition.lowerRoot freeTemp (treeOf nodes list names) mode root
         (made (words (take nc code)) (words (take np constants)) (words (take nm marks)) (record { registers = registers; instructions = 0; constants = 0; marks = 0 })))
-        ≡ seen (made (words c) (words p) (words m) s) a) where
+        ≡ seen (treeOf nodes list names) placeAt (made (words c) (words p) (words m) s) a) where
       whole : definition.lower nodes root mode list names (words code) (words constants) (words marks)
-          ≡ definition.leaves (resultOf arity s a) (made (words c) (words p) (words m) s)
+          ≡ definition.answered arity (seen (treeOf nodes list names) placeAt (made (words c) (words p) (words m) s) a)
       unfolding definition.lower definition.lowerChecked definition.begin
       whole =
           let count : length (words names) ≡ arity = length-words names ∙ sym h in
           let run = rw (lent-is lc, lent-is lp, lent-is lm, fresh) at e in
-          rw (yes, count) (numbered arity _ _ a run)
+          rw (yes, count) (sym (numbered arity _) ∙ ap (definition.answered arity) run)
 
-      pub lowered : {r : definition.Result} → r ≡ resultOf arity s a →
+      pub lowered : {r : definition.Result} → r ≡ definition.answered arity (seen (treeOf nodes list names) placeAt (made (words c) (words p) (words m) s) a) .result →
           (r ≡ definition.lower nodes root mode list names (words code) (words constants) (words marks) .result)
           × ((c ++ drop nc code ≡ bytesOf (definition.lower nodes root mode list names (words code) (words constants) (words marks) .code) ++ tail code)
           × ((p ++ drop np constants ≡ bytesOf (definition.lower nodes root mode list names (words code) (words constants) (words marks) .constants) ++ tail constants)
           × (m ++ drop nm marks ≡ bytesOf (definition.lower nodes root mode list names (words code) (words constants) (words marks) .marks) ++ tail marks)))
-      lowered told = (rw whole told, (rw whole (home lc), (rw whole (home lp), rw whole (home lm))))
+      lowered told =
+          let left = buffers arity (treeOf nodes list names) (made (words c) (words p) (words m) s) a in
+          (rw whole told, (rw (whole, left .0) (home lc), (rw (whole, left .1 .0) (home lp), rw (whole, left .1 .1) (home lm))))

@@ -1,202 +1,217 @@
--- The laws by which a function of the walk does what its clause of the definition says: one a step of a do-block, and one a kind of node. Assumes nothing.
-use Prim.Native.Nat.{ℕ, zero, suc, _+_, _*_, _-_, _<_}
+-- The laws by which a function of the walk does what its clause of the definition says: what a node's kind gives, a child that was tried and then walked, a
+-- register given back, and the end of an arm. Assumes nothing.
+use Prim.Native.Nat.{ℕ, zero, suc, _+_, _*_, _-_, _/_, _<_, _≤_}
 use native.Mathlib.Omega.{arith}
+use native.Mathlib.Decide.{ℕ-discrete}
 use mathlib.Core.Path.{_≡_, refl, sym, _∙_, ap, subst}
-use mathlib.Core.Bool.{Bool, true, false, false≢true}
 use mathlib.Core.Logic.{_≢_}
-use mathlib.Core.Option.{none, some}
-use borrow.Author.Tests.{eq-eqb, ne-eqb}
-use Rattle.diagnostics.specs.declared.Refusal.{Refusal}
-use Rattle.runtime.specs.declared.instruction.Instruction.{Instruction}
-use Rattle.runtime.specs.Operands.{regOf}
-use Rattle.syntax.specs.Ast.{absent}
+use mathlib.Core.Bool.{Bool, true, false, false≢true}
 use mathlib.Core.List.{List}
-use lib.ListN.{getD}
+use lib.ListN.{length, getD}
+use borrow.Author.Tests.{eq-eqb, ne-eqb}
+use Rattle.words.specs.Words.{words}
+use Rattle.words.specs.Records.{capacity}
 use Rattle.environment.specs.declared.Register.{Register}
-use Rattle.runtime.specs.declared.operand.Operand.{Operand}
+use Rattle.environment.specs.Environment.{freed}
+use Rattle.environment.specs.Registers.{givenBack}
 use Rattle.syntax.specs.declared.ast.Node.{Node}
+use Rattle.syntax.specs.Ast.{nodeKinds, nodeWord, nodeWidth, absent}
+use Rattle.runtime.specs.declared.operand.Operand.{Operand}
 use Rattle.lowering.specs.declared.Dest.{Dest}
-use Rattle.lowering.specs.Tree.{Tree, node, spanStart, spanEnd}
+use Rattle.lowering.specs.declared.State.{State}
+use Rattle.lowering.specs.Tree.{Tree, treeOf, node}
 use Rattle.lowering.specs.Checked.{Checked, Below}
-use Rattle.lowering.specs.Walk.{Made, Outcome, ends, stops, Walk, bind, ret, error}
-use Rattle.lowering.specs.Steps.{freeTemp, destination, loadConstant, emit, store, mark}
-use Rattle.lowering.specs.Lower.{Source, source, register, constant, nameOf, storeNamed, storeKeyed, lowerElse, lowerTail, lowerMaterializing, lowerArguments, lowerEntry, lowerEntries, lowerNode, lowerExpression, lowerJumpIfFalse, jumpNode}
-use Rattle.lowering.proofs.Questions.Checked.{checked-below}
-use Rattle.lowering.proofs.Bound.Lowering.{expression-at, jump-false-at}
-use Rattle.steps.specs.declared.answer.Answer.{Answer}
-use Rattle.steps.specs.declared.kinds.Condition.{Condition}
-use Rattle.steps.specs.Answers.{refused, operandOf, placeOf, heldBy, isRegister, registerOf, seen, answered, asRegister, setNamed}
-use Rattle.steps.specs.declared.kinds.Single.{Single}
-use Rattle.steps.specs.Kinds.{conditionOf, singleNode, singleEnd}
-use Rattle.steps.proofs.Chains as chains
-use Rattle.steps.proofs.Conditions.{ConditionBelow, condition-below, jumpBy, jump-by, single-arm}
+use Rattle.lowering.specs.Walk.{Made, made, Outcome, ends, stops, Walk, bind, ret}
+use Rattle.lowering.specs.Steps.{freeTemp, withRegisters, withCode, withOffset, patchToNext}
+use Rattle.lowering.specs.Literals.{isLiteral, literal}
+use Rattle.lowering.specs.Lower.{Source, source, register, constant, materialized, lowerMaterializing, lowerNode, lowerExpression, lowerJumpIfFalse}
+use Rattle.lowering.proofs.Questions.Checked.{kind-word, checked-at, checked-below}
+use Rattle.lowering.proofs.Bound.Lowering.{expression-at}
+use Rattle.lowering.proofs.Destinations.{EndsWith, ends-with, GivesRegister, expression-into, expression-register, freeSource, node-kind}
+use Rattle.steps.specs.declared.answer.Lowered.{Lowered}
+use Rattle.steps.specs.Answers.{any, registerAt, destOf, literalWord, operandAt, sourceAt, settled, seen, isRefusal, isInner, valueOf, wordEnd}
+use Rattle.steps.proofs.Chains.{got, then, stop, then-done, seen-given, seen-stopped, seen-word}
+use Rattle.steps.proofs.Words.{freed-word, freed-literal, destOf-any, destOf-to}
+use Rattle.codegen.specs.Ready.{InArena, wordOf}
+use Rattle.codegen.specs.Kinds.{nameKind, binaryKind, blockKind}
+use Rattle.codegen.specs.Flat.{Falling, Untouched}
 
-module _ {B : Type 0} (gives : B → Answer) {refusal : Bool} where
-  -- a step that gave: the rest, with what the program read off the answer
-  pub then-operand : (o : Outcome Operand) (m : Made) (a : Answer) (k : Operand → Walk B) {r : Outcome Answer} {x : Operand} →
-      answered Answer.Operand o ≡ seen m a → refusal ≡ refused a → refusal ≡ false → x ≡ operandOf a → answered gives (k x m) ≡ r → answered gives (bind o k) ≡ r
-  then-operand o m a k e told left same q = chains.then-operand o m a k gives e (sym told ∙ left) (rw (← same) q)
+-- ---- a node by its kind
 
-  pub then-register : (o : Outcome Register) (m : Made) (a : Answer) (k : Register → Walk B) {r : Outcome Answer} {x : Register} →
-      answered asRegister o ≡ seen m a → refusal ≡ refused a → refusal ≡ false → x ≡ registerOf a → answered gives (k x m) ≡ r → answered gives (bind o k) ≡ r
-  then-register o m a k e told left same q = chains.then-register o m a k gives e (sym told ∙ left) (rw (← same) q)
+-- the node of a kind with the words of node i
+abbrev pub kindOf : Tree → ℕ → ℕ → Node
+kindOf t i k = getD nodeKinds k (λ a b c. Node.Nil) (nodeWord (t .nodes) i 1) (nodeWord (t .nodes) i 2) (nodeWord (t .nodes) i 3)
 
-  pub then-place : (o : Outcome ℕ) (m : Made) (a : Answer) (k : ℕ → Walk B) {r : Outcome Answer} {x : ℕ} →
-      answered Answer.Place o ≡ seen m a → refusal ≡ refused a → refusal ≡ false → x ≡ placeOf a → answered gives (k x m) ≡ r → answered gives (bind o k) ≡ r
-  then-place o m a k e told left same q = chains.then-place o m a k gives e (sym told ∙ left) (rw (← same) q)
+module _ {t : Tree} (checked : Checked t) (i k : ℕ) (kind : nodeWord (t .nodes) i 0 ≡ k) where
+  pub below-of : Below t i (kindOf t i k)
+  below-of = subst (λ n. Below t i n) (node-kind t i k kind) (checked-below checked i)
 
-  -- a step that refused ends the block
-  pub stop : {A : Type 0} (gave : A → Answer) (o : Outcome A) (m : Made) (a : Answer) (k : A → Walk B) → answered gave o ≡ seen m a →
-      refusal ≡ refused a → refusal ≡ true → answered gives (bind o k) ≡ seen m a
-  stop gave o m a k e told taken = chains.stop-refused gave o m a k gives e (sym told ∙ taken)
+  pub expression-of : (dest : Dest) (m : Made) {r : Outcome Operand} →
+      settled (lowerNode freeTemp t (lowerExpression freeTemp t) (lowerJumpIfFalse freeTemp t) i (kindOf t i k) dest m) ≡ r → settled (lowerExpression freeTemp t i dest m) ≡ r
+  expression-of dest m q = rw (expression-at checked i dest, node-kind t i k kind) q
 
--- where an operand is, by the program's question
-pub in-register : (x : Operand) {src : Register} {b : Bool} → b ≡ isRegister x → b ≡ true → src ≡ heldBy x → source x ≡ register src
-in-register x told taken held = chains.source-register x (sym told ∙ taken) ∙ ap register (sym held)
+-- what the flat nodes ask of the arena
+pub falling : (nodes list names : List ℕ) → Checked (treeOf nodes list names) → Falling nodes
+falling nodes list names checked =
+    record {
+      left = λ i h kind. below-of checked i binaryKind kind .0;
+      right = λ i h kind. below-of checked i binaryKind kind .1;
+      tail = λ i h kind. below-of checked i blockKind kind;
+    }
 
-pub in-pool : (x : Operand) {b : Bool} → b ≡ isRegister x → b ≡ false → source x ≡ constant x
-in-pool x told left = chains.source-constant x (sym told ∙ left)
+-- a kind from 5 on is no literal
+later-kind : (k a b c : ℕ) → binaryKind ≤ k → k ≤ 14 → isLiteral (getD nodeKinds k (λ x y z. Node.Nil) a b c) ≡ false
+unfolding isLiteral
+later-kind zero a b c h l = absurd (omega (arith, h))
+later-kind (suc (zero)) a b c h l = absurd (omega (arith, h))
+later-kind (suc (suc (zero))) a b c h l = absurd (omega (arith, h))
+later-kind (suc (suc (suc (zero)))) a b c h l = absurd (omega (arith, h))
+later-kind (suc (suc (suc (suc (zero))))) a b c h l = absurd (omega (arith, h))
+later-kind (suc (suc (suc (suc (suc (zero)))))) a b c h l = refl
+later-kind (suc (suc (suc (suc (suc (suc (zero))))))) a b c h l = refl
+later-kind (suc (suc (suc (suc (suc (suc (suc (zero)))))))) a b c h l = refl
+later-kind (suc (suc (suc (suc (suc (suc (suc (suc (zero))))))))) a b c h l = refl
+later-kind (suc (suc (suc (suc (suc (suc (suc (suc (suc (zero)))))))))) a b c h l = refl
+later-kind (suc (suc (suc (suc (suc (suc (suc (suc (suc (suc (zero))))))))))) a b c h l = refl
+later-kind (suc (suc (suc (suc (suc (suc (suc (suc (suc (suc (suc (zero)))))))))))) a b c h l = refl
+later-kind (suc (suc (suc (suc (suc (suc (suc (suc (suc (suc (suc (suc (zero))))))))))))) a b c h l = refl
+later-kind (suc (suc (suc (suc (suc (suc (suc (suc (suc (suc (suc (suc (suc (zero)))))))))))))) a b c h l = refl
+later-kind (suc (suc (suc (suc (suc (suc (suc (suc (suc (suc (suc (suc (suc (suc (zero))))))))))))))) a b c h l = refl
+later-kind (suc (suc (suc (suc (suc (suc (suc (suc (suc (suc (suc (suc (suc (suc (suc (k)))))))))))))))) a b c h l = absurd (omega (arith, l))
 
--- a node that was read, by its kind
-module _ {t : Tree} (checked : Checked t) (i : ℕ) {kind n : Node} (read : kind ≡ node t i) (is : kind ≡ n) where
-  pub below-of : Below t i n
-  below-of = subst (λ x. Below t i x) (sym read ∙ is) (checked-below checked i)
+pub no-literal : {t : Tree} → Checked t → (i : ℕ) → binaryKind ≤ nodeWord (t .nodes) i 0 → isLiteral (node t i) ≡ false
+no-literal {t} checked i h = rw (node-kind t i (nodeWord (t .nodes) i 0) refl) (later-kind (nodeWord (t .nodes) i 0) _ _ _ h (kind-word (checked-at checked i)))
 
-  pub expression-of : (dest : Dest) (m : Made) {r : Outcome Answer} →
-      answered Answer.Operand (lowerNode freeTemp t (lowerExpression freeTemp t) (lowerJumpIfFalse freeTemp t) i n dest m) ≡ r → answered Answer.Operand (lowerExpression freeTemp t i dest m) ≡ r
-  expression-of dest m q = rw (expression-at checked i dest, ← read, is) q
+-- ---- a child
 
--- a condition that was read
-module _ {t : Tree} (checked : Checked t) (i : ℕ) {kind : Node} {condition is : Condition} (read : kind ≡ node t i)
-    (told : condition ≡ conditionOf kind) (same : condition ≡ is) where
-  pub condition-below-of : ConditionBelow i is
-  condition-below-of = subst (λ x. ConditionBelow i x) (ap conditionOf (sym read) ∙ sym told ∙ same) (condition-below t i (node t i) (checked-below checked i))
+-- a node that is no literal is in a register, by what is seen of its word
+gives-register : (n : Node) (dest : Dest) (w : ℕ) (m : Made) → isLiteral n ≡ false → GivesRegister (ends (operandAt n w) m) →
+    settled (materialized (source (operandAt n w)) dest m) ≡ ends (registerAt w) m
+unfolding operandAt GivesRegister source materialized settled literal isLiteral
+gives-register n dest w m l g = go n (ℕ-discrete w literalWord) l g
+  where
+    nil : (n : Node) → isLiteral n ≡ false → literal n ≡ Operand.Nil
+    nil (Node.Number low high) h = absurd (false≢true (sym h))
+    nil (Node.String symbol) h = absurd (false≢true (sym h))
+    nil (Node.Boolean b) h = absurd (false≢true (sym h))
+    nil Node.Nil h = absurd (false≢true (sym h))
+    nil (Node.Identifier symbol) h = refl
+    nil (Node.Binary operator left right) h = refl
+    nil (Node.Unary operator operand) h = refl
+    nil (Node.LogicalNot operand) h = refl
+    nil (Node.LogicalAnd left right) h = refl
+    nil (Node.LogicalOr left right) h = refl
+    nil (Node.If condition thenBranch elseBranch) h = refl
+    nil (Node.Block tail) h = refl
+    nil (Node.FunctionCall callee first count) h = refl
+    nil (Node.PropertyAccess object property) h = refl
+    nil (Node.Map first count) h = refl
 
-  pub jump-false-of : (m : Made) {r : Outcome Answer} →
-      answered Answer.Place (jumpBy t (lowerExpression freeTemp t) false (lowerExpression freeTemp t i) is m) ≡ r → answered Answer.Place (lowerJumpIfFalse freeTemp t i m) ≡ r
-  jump-false-of m q = rw (jump-false-at checked i, jump-by t (lowerExpression freeTemp t) false (lowerExpression freeTemp t i) (node t i), ← read, ← told, same) q
+    go : (n : Node) → Dec (w ≡ literalWord) → isLiteral n ≡ false → GivesRegister (ends (operandAt n w) m) → settled (materialized (source (operandAt n w)) dest m) ≡ ends (registerAt w) m
+    go n (yes h) l g = absurd (rw (eq-eqb w literalWord h, nil n l) at g)
+    go n (no h) l g = rw (ne-eqb w literalWord h)
 
--- a block in a block
-pub nested : {A B C : Type 0} (gives : C → Answer) (o : Outcome A) (k : A → Walk B) (l : B → Walk C) {r : Outcome Answer} →
-    answered gives (bind o (λ x m. bind (k x m) l)) ≡ r → answered gives (bind (bind o k) l) ≡ r
-unfolding bind
-nested gives (ends x m) k l q = q
-nested gives (stops e m) k l q = q
+pub in-register : (t : Tree) (n : Node) (dest : Dest) (o : Outcome Operand) (m : Made) (a : ℕ) → isLiteral n ≡ false → GivesRegister o →
+    settled o ≡ seen t (operandAt n) m a → settled (bind o (λ src. materialized (source src) dest)) ≡ seen t registerAt m a
+in-register t n dest o m a l g e = go (isRefusal a) refl
+  where
+    go : (b : Bool) → isRefusal a ≡ b → settled (bind o (λ src. materialized (source src) dest)) ≡ seen t registerAt m a
+    go true h = stop t o (operandAt n) m a _ e registerAt h
+    go false h =
+        let is : o ≡ ends (operandAt n (valueOf a)) m = got o (operandAt n (valueOf a)) m (e ∙ seen-given t (operandAt n) m a h) in
+        then t o (operandAt n) m a _ e h (gives-register n dest (valueOf a) m l (subst GivesRegister is g) ∙ sym (seen-given t registerAt m a h))
 
--- an arm with one operand
-pub single-of : (t : Tree) (E : ℕ → Dest → Walk Operand) (J : ℕ → Walk ℕ) (i : ℕ) (single : Single) (operand : ℕ) (dest : Dest) (m : Made) {r : Outcome Answer} →
-    answered Answer.Operand (bind (destination dest m) (λ d m₁. bind (lowerMaterializing (E operand) Dest.Any m₁) (λ src. singleEnd single d src))) ≡ r →
-    answered Answer.Operand (lowerNode freeTemp t E J i (singleNode single operand) dest m) ≡ r
-single-of t E J i single operand dest m q = rw (single-arm t E J i single operand dest m) q
+-- ---- a child that was tried and, if it was not flat, walked
 
--- the map's instruction
-pub created : {to : ℕ} (d : Register) (m : Made) {s : Outcome Answer} → to ≡ regOf d →
-    answered Answer.Place (emit (Instruction.CreateMap to) m) ≡ s → answered Answer.Place (emit (Instruction.CreateMap (regOf d)) m) ≡ s
-created d m same e = rw (← same) e
+-- what the trial left is kept, or nothing was done: by the buffers' bytes and the state
+module _ (code code₁ code₂ pool pool₁ pool₂ marks marks₂ : List ℕ) (s : State) (f r : Lowered) where
+  pub kept : (isInner (f .answer) ≡ false → (r ≡ f) × ((words code₂ ≡ words code₁) × ((words pool₂ ≡ words pool₁) × (words marks₂ ≡ words marks)))) →
+      isInner (f .answer) ≡ false → (made (words code₂) (words pool₂) (words marks₂) (r .state) ≡ made (words code₁) (words pool₁) (words marks) (f .state)) × (r .answer ≡ f .answer)
+  kept done h = let same = done h in (rw (same .0, same .1 .0, same .1 .1 .0, same .1 .1 .1), ap (λ x. x .answer) (same .0))
 
--- a name key without a value: what was looked up is in a register, which is read as an operand
-pub looked-up : (t : Tree) (E : ℕ → Dest → Walk Operand) (d : Register) (name : ℕ) (o : Outcome Register) (m : Made) (a : Answer) (x : Operand) {b : Bool} {r : Outcome Answer} →
-    answered asRegister o ≡ seen m a → b ≡ refused a → b ≡ false → x ≡ operandOf a → answered Answer.Place (setNamed t E d name x m) ≡ r →
-    answered Answer.Place (bind o (λ src m₁. bind (store (Operand.String name) m₁) (λ k. emit (Instruction.SetPropertyKR (regOf d) k (regOf src))))) ≡ r
-unfolding operandOf heldBy source storeNamed seen answered bind refused
-looked-up t E d name (ends src m′) m a x e told left read q =
-    let same = chains.seen-one-to-one m′ m (asRegister src) a e in
-    let value : x ≡ Operand.Register src = read ∙ ap operandOf (sym (same .1)) in
-    rw (same .0) (rw value at q)
-looked-up t E d name (stops f m′) m a x e told left read q =
-    let same = chains.seen-one-to-one m′ m (Answer.Refused f) a e in
-    absurd (false≢true (sym left ∙ told ∙ ap refused (sym (same .1))))
+  pub untouched : {A : Type 0} → (isInner (f .answer) ≡ true → Untouched code code₁ pool pool₁ s f × A) → isInner (f .answer) ≡ true →
+      made (words code₁) (words pool₁) (words marks) s ≡ made (words code) (words pool) (words marks) s
+  untouched left h = let same = left h .0 in rw (same .1 .0, same .1 .1)
 
-module _ (t : Tree) (E : ℕ → Dest → Walk Operand) where
-  -- what may be absent
-  pub else-none : {B : Type 0} (gives : B → Answer) (k : Register → Walk B) (i branch : ℕ) (d : Register) (m : Made) {a : Answer} → branch ≡ absent →
-      a ≡ Answer.Refused (error Refusal.Else i (spanStart t i) (spanEnd t i)) → answered gives (bind (lowerElse t E i branch d m) k) ≡ seen m a
-  unfolding lowerElse bind answered seen
-  else-none gives k i branch d m h told = rw (eq-eqb branch absent h, told)
+-- from m the trial left m₁ and its answer a; the walk began at m₀, which is m if it began; now there is m₂ and the answer b
+module _ {t : Tree} (checked : Checked t) (n : ℕ) (m m₀ m₁ m₂ : Made) (a b : ℕ) (done : isInner a ≡ false → (m₂ ≡ m₁) × (b ≡ a)) (back : isInner a ≡ true → m₀ ≡ m) where
+  -- it was flat
+  flat : {A : Type 0} (gives : ℕ → A) (o : Outcome A) → isInner a ≡ false → settled o ≡ seen t gives m₁ a → settled o ≡ seen t gives m₂ b
+  flat gives o h e = let same = done h in e ∙ rw (same .0, same .1)
 
-  pub else-some : (i branch : ℕ) (d : Register) → branch ≢ absent → lowerElse t E i branch d ≡ lowerMaterializing (E branch) (Dest.To d)
-  unfolding lowerElse
-  else-some i branch d h = rw (ne-eqb branch absent h)
+  by-trial : {C : Type 0} → (isInner a ≡ false → C) → (isInner a ≡ true → C) → C
+  by-trial {C = C} x y = go (isInner a) refl
+    where
+      go : (c : Bool) → isInner a ≡ c → C
+      go false h = x h
+      go true h = y h
 
-  pub tail-none : (tail : ℕ) (d : Register) → tail ≡ absent → lowerTail t E tail d ≡ loadConstant Operand.Nil (Dest.To d)
-  unfolding lowerTail
-  tail-none tail d h = rw (eq-eqb tail absent h)
+  -- its operand
+  pub child-operand : (isInner a ≡ false → settled (lowerExpression freeTemp t n Dest.Any m) ≡ seen t (operandAt (node t n)) m₁ a) → (isInner a ≡ true → valueOf a ≡ n) →
+      (isInner a ≡ true → settled (lowerExpression freeTemp t (valueOf a) (destOf any) m₀) ≡ seen t (operandAt (node t (valueOf a))) m₂ b) →
+      settled (lowerExpression freeTemp t n Dest.Any m) ≡ seen t (operandAt (node t n)) m₂ b
+  child-operand tried same walked =
+      by-trial (λ h. flat (operandAt (node t n)) _ h (tried h)) (λ h. rw (same h, back h, destOf-any) at (walked h))
 
-  pub tail-some : (tail : ℕ) (d : Register) → tail ≢ absent → lowerTail t E tail d ≡ lowerMaterializing (E tail) (Dest.To d)
-  unfolding lowerTail
-  tail-some tail d h = rw (ne-eqb tail absent h)
+  -- its value in a register
+  pub child-register : (isInner a ≡ false → settled (lowerMaterializing (lowerExpression freeTemp t n) Dest.Any m) ≡ seen t registerAt m₁ a) → (isInner a ≡ true → valueOf a ≡ n) →
+      (isInner a ≡ true → binaryKind ≤ nodeWord (t .nodes) n 0) →
+      (isInner a ≡ true → settled (lowerExpression freeTemp t (valueOf a) (destOf any) m₀) ≡ seen t (operandAt (node t (valueOf a))) m₂ b) →
+      settled (lowerMaterializing (lowerExpression freeTemp t n) Dest.Any m) ≡ seen t registerAt m₂ b
+  unfolding lowerMaterializing
+  child-register tried same kind walked =
+      by-trial
+      (λ h. flat registerAt _ h (tried h))
+      (λ h.
+      in-register t (node t n) Dest.Any (lowerExpression freeTemp t n Dest.Any m) m₂ b (no-literal checked n (kind h)) (expression-register t n (no-literal checked n (kind h)) Dest.Any m)
+      (rw (same h, back h, destOf-any) at (walked h)))
 
-  pub named-none : (d : Register) (key value name : ℕ) → value ≡ absent →
-      lowerEntry t E d key value (some name)
-      ≡ (λ m. bind (lowerMaterializing (E key) Dest.Any m) (λ src m₁. bind (store (Operand.String name) m₁) (λ k. emit (Instruction.SetPropertyKR (regOf d) k (regOf src)))))
-  unfolding lowerEntry
-  named-none d key value name h = rw (eq-eqb value absent h)
+  -- its value in d
+  pub child-into : (d : ℕ) → d < any → (isInner a ≡ false → settled (lowerMaterializing (lowerExpression freeTemp t n) (Dest.To (registerAt d)) m) ≡ seen t registerAt m₁ a) →
+      (isInner a ≡ true → lowerMaterializing (lowerExpression freeTemp t n) (Dest.To (registerAt d)) m ≡ lowerMaterializing (lowerExpression freeTemp t (valueOf a)) (Dest.To (registerAt d)) m) →
+      (isInner a ≡ true → binaryKind ≤ nodeWord (t .nodes) (valueOf a) 0) →
+      (isInner a ≡ true → settled (lowerExpression freeTemp t (valueOf a) (destOf d) m₀) ≡ seen t (operandAt (node t (valueOf a))) m₂ b) →
+      settled (lowerMaterializing (lowerExpression freeTemp t n) (Dest.To (registerAt d)) m) ≡ seen t registerAt m₂ b
+  unfolding lowerMaterializing
+  child-into d few tried same kind walked = by-trial (λ h. flat registerAt _ h (tried h)) (λ h. ap settled (same h) ∙ into h)
+    where
+      into : isInner a ≡ true → settled (lowerMaterializing (lowerExpression freeTemp t (valueOf a)) (Dest.To (registerAt d)) m) ≡ seen t registerAt m₂ b
+      into h =
+          let l = no-literal checked (valueOf a) (kind h) in
+          in-register t (node t (valueOf a)) (Dest.To (registerAt d)) (lowerExpression freeTemp t (valueOf a) (Dest.To (registerAt d)) m) m₂ b l
+          (expression-register t (valueOf a) l (Dest.To (registerAt d)) m) (rw (back h, destOf-to d (omega (arith, few))) at (walked h))
 
-  pub named-some : (d : Register) (key value name : ℕ) → value ≢ absent →
-      lowerEntry t E d key value (some name)
-      ≡ (λ m. bind (E value Dest.Any m) (λ src m₁. bind (store (Operand.String name) m₁) (λ k. storeNamed t E d k (source src))))
-  unfolding lowerEntry
-  named-some d key value name h = rw (ne-eqb value absent h)
+-- ---- what follows a child, and the end of an arm
 
-  pub keyed-none : (d : Register) (key value : ℕ) (m : Made) {a : Answer} → value ≡ absent →
-      a ≡ Answer.Refused (error Refusal.Key key (spanStart t key) (spanEnd t key)) → answered Answer.Place (lowerEntry t E d key value none m) ≡ seen m a
-  unfolding lowerEntry answered seen
-  keyed-none d key value m h told = rw (eq-eqb value absent h, told)
+module _ (t : Tree) {B : Type 0} (m : Made) (k : Register → Walk B) where
+  -- a value in d: the rest takes d for the answer
+  pub then-into : (n : ℕ) (d : Register) (m₂ : Made) (b : ℕ) {r : Outcome B} → settled (lowerMaterializing (lowerExpression freeTemp t n) (Dest.To d) m) ≡ seen t registerAt m₂ b →
+      isRefusal b ≡ false → settled (k d m₂) ≡ r → settled (bind (lowerMaterializing (lowerExpression freeTemp t n) (Dest.To d) m) k) ≡ r
+  then-into n d m₂ b e h q =
+      ap settled (ends-with d _ k (expression-into t n d m)) ∙ then t _ registerAt m₂ b (λ y. k d) e h q
 
-  pub keyed-some : (d : Register) (key value : ℕ) → value ≢ absent →
-      lowerEntry t E d key value none ≡ (λ m. bind (E key Dest.Any m) (λ k m₁. bind (E value Dest.Any m₁) (λ v. storeKeyed t E d (source k) (source v))))
-  unfolding lowerEntry
-  keyed-some d key value h = rw (ne-eqb value absent h)
+-- a register given back, and what a source held
+pub then-freed : {B : Type 0} (m : Made) (w : ℕ) (k : Unit {0} → Walk B) {r : Outcome B} → settled (k tt (withRegisters (givenBack (m .state .registers) w) m)) ≡ r →
+    settled (bind (freeTemp (registerAt w) m) k) ≡ r
+unfolding freeTemp bind
+then-freed m w k q = rw (freed-word (m .state .registers) w) q
 
--- the arguments of a call, and the entries of a map, one by one: of count, i are done, and the rest gives what the whole gives
-module _ (t : Tree) (E : ℕ → Dest → Walk Operand) where
-  module _ (call first count i : ℕ) (m₀ m : Made) (rest : lowerArguments t E call first count 0 m₀ ≡ lowerArguments t E call first (count - i) i m) where
-    pub arguments-none : count ≡ i → lowerArguments t E call first count 0 m₀ ≡ ends tt m
-    unfolding lowerArguments
-    arguments-none h = let z : count - i ≡ 0 = omega arith in rest ∙ rw z
+pub then-freed-source : {B : Type 0} (m : Made) (c : Operand) (w : ℕ) (k : Unit {0} → Walk B) {r : Outcome B} → settled (k tt (withRegisters (givenBack (m .state .registers) w) m)) ≡ r →
+    settled (bind (freeSource (sourceAt c w) m) k) ≡ r
+unfolding freeSource sourceAt bind
+then-freed-source m c w k {r} q = go (ℕ-discrete w literalWord)
+  where
+    go : Dec (w ≡ literalWord) → settled (bind (freeSource (sourceAt c w) m) k) ≡ r
+    go (yes h) = rw (eq-eqb w literalWord h) (rw (h, freed-literal (m .state .registers)) at q)
+    go (no h) = rw (ne-eqb w literalWord h) (then-freed m w k q)
 
-    pub arguments-more : i < count →
-        lowerArguments t E call first count 0 m₀
-        ≡ bind (lowerMaterializing (E (getD (t .list) (first + i) 0)) (Dest.To (Register.Local i)) m)
-        (λ x m₁. bind (mark call (spanStart t call) (spanEnd t call) m₁) (λ y. lowerArguments t E call first (count - (i + 1)) (i + 1)))
-    unfolding lowerArguments
-    arguments-more h =
-        let z : count - i ≡ suc (count - (i + 1)) = omega arith in
-        let next : i + 1 ≡ suc i = omega arith in
-        rest ∙ rw (z, next)
+-- a jump patched to the next instruction
+pub then-patched : {B : Type 0} (m : Made) (j : ℕ) (code : List ℕ) (k : Unit {0} → Walk B) {r : Outcome B} → code ≡ withOffset (m .code) j (m .state .instructions - j) →
+    settled (k tt (withCode code (m .state .instructions) m)) ≡ r → settled (bind (patchToNext j m) k) ≡ r
+unfolding patchToNext bind
+then-patched m j code k same q = rw (← same) q
 
-    -- an argument that was lowered and marked
-    pub arguments-again : (argument : ℕ) (m₁ : Made) (a₁ : Answer) (m₂ : Made) (a₂ : Answer) {b₁ b₂ : Bool} → i < count → argument ≡ getD (t .list) (first + i) 0 →
-        answered asRegister (lowerMaterializing (E argument) (Dest.To (Register.Local i)) m) ≡ seen m₁ a₁ → b₁ ≡ refused a₁ → b₁ ≡ false →
-        answered Answer.Place (mark call (spanStart t call) (spanEnd t call) m₁) ≡ seen m₂ a₂ → b₂ ≡ refused a₂ → b₂ ≡ false →
-        lowerArguments t E call first count 0 m₀ ≡ lowerArguments t E call first (count - (i + 1)) (i + 1) m₂
-    unfolding bind
-    arguments-again argument m₁ a₁ m₂ a₂ h read e₁ told₁ left₁ e₂ told₂ left₂ =
-        arguments-more h
-        ∙ rw (← read, chains.got-register _ m₁ a₁ e₁ (sym told₁ ∙ left₁), chains.got-place _ m₂ a₂ e₂ (sym told₂ ∙ left₂))
-
-  module _ (d : Register) (first count i : ℕ) (m₀ m : Made) (rest : lowerEntries t E d first count 0 m₀ ≡ lowerEntries t E d first (count - i) i m) where
-    pub entries-none : count ≡ i → lowerEntries t E d first count 0 m₀ ≡ ends tt m
-    unfolding lowerEntries
-    entries-none h = let z : count - i ≡ 0 = omega arith in rest ∙ rw z
-
-    pub entries-more : (key value : ℕ) → i < count → key ≡ getD (t .list) (first + 2 * i) 0 → value ≡ getD (t .list) (first + 2 * i + 1) 0 →
-        lowerEntries t E d first count 0 m₀
-        ≡ bind (lowerEntry t E d key value (nameOf (node t key)) m) (λ x. lowerEntries t E d first (count - (i + 1)) (i + 1))
-    unfolding lowerEntries
-    entries-more key value h k v =
-        let z : count - i ≡ suc (count - (i + 1)) = omega arith in
-        let next : i + 1 ≡ suc i = omega arith in
-        rest ∙ rw (z, next, ← k, ← v)
-
-    -- an entry that was lowered
-    pub entries-again : (key value : ℕ) (m₁ : Made) (a : Answer) {b : Bool} → i < count → key ≡ getD (t .list) (first + 2 * i) 0 → value ≡ getD (t .list) (first + 2 * i + 1) 0 →
-        answered Answer.Place (lowerEntry t E d key value (nameOf (node t key)) m) ≡ seen m₁ a → b ≡ refused a → b ≡ false →
-        lowerEntries t E d first count 0 m₀ ≡ lowerEntries t E d first (count - (i + 1)) (i + 1) m₁
-    unfolding bind
-    entries-again key value m₁ a h k v e told left = entries-more key value h k v ∙ rw (chains.got-place _ m₁ a e (sym told ∙ left))
-
-    -- every entry was lowered
-    pub map-done : count ≡ i → answered Answer.Operand (bind (lowerEntries t E d first count 0 m₀) (λ x. ret (Operand.Register d))) ≡ seen m (asRegister d)
-    unfolding bind answered seen
-    map-done h = rw (entries-none h)
+-- the answer d
+pub ended : (t : Tree) (n : Node) (m : Made) (d : ℕ) → d < any → ends (Operand.Register (registerAt d)) m ≡ seen t (operandAt n) m d
+unfolding operandAt
+ended t n m d few = sym (seen-word t (operandAt n) m d (omega (arith, few)) ∙ rw (ne-eqb d literalWord (omega (arith, few))))

@@ -1,45 +1,48 @@
 // Lowering a tree (kaori's codegen/lower_ast.rs): the questions, the walk from the root by the mode, and the arguments patched.
+mod flat;
 mod lower_expression;
+mod read;
 
 ghost use mathlib.Core.Path.{_≡_};
+ghost use mathlib.Core.Bool.{cond};
 ghost use mathlib.Core.List.{List, _++_};
-ghost use Prim.Native.Nat.{ℕ};
+ghost use Prim.Native.Nat.{ℕ, _<_};
+ghost use Rattle.diagnostics.specs.Refusal.{refusalNumber};
 ghost use Rattle.words.specs.Words.{words, tail, bytesOf};
-ghost use Rattle.syntax.specs.Ast.{nodeAt};
-ghost use Rattle.lowering.specs.Tree.{treeOf};
+ghost use Rattle.syntax.specs.Ast.{nodeWord};
+ghost use Rattle.lowering.specs.Tree.{Tree, treeOf};
 ghost use Rattle.lowering.specs.Questions.{passed, questions};
 ghost use Rattle.lowering.specs.Walk.{made, bind, ret};
 ghost use Rattle.lowering.specs.Steps.{freeTemp, patchArguments};
-ghost use Rattle.lowering.specs.Lower.{jumpNode, lowerExpression};
-ghost use Rattle.lowering.specs.Result.{numbersOf, lowerRoot, lower};
-ghost use Rattle.steps.specs.declared.answer.Answer.{Answer};
-ghost use Rattle.steps.specs.Answers.{seen, answered};
-ghost use Rattle.codegen.specs.Ready.{Ready};
-ghost use Rattle.codegen.specs.Numbers.{numbers, resultOf, refusedResult, conditional};
-use crate::lower_expression::lower_fused;
+ghost use Rattle.lowering.specs.Result.{numbersOf, answered, lowerRoot, lower};
+ghost use Rattle.steps.specs.Answers.{placeAt, refusalOf, namesNode, settled, seen};
+ghost use Rattle.codegen.specs.Ready.{InArena, Ready, Lowers};
+ghost use Rattle.codegen.specs.Numbers.{numbers, refusedResult, conditional};
+use crate::flat::REGISTER;
+use crate::flat::peek;
+use crate::lower_expression::lower_jump_if;
 use crate::lower_expression::lower_materializing;
-use diagnostics::Error;
 use diagnostics::Refusal;
 use environment::RegisterSet;
 use lower_ast::Patched;
 use lower_ast::patch_arguments;
-use lowering::Dest;
 use lowering::RESULT_WORDS;
 use lowering::State;
 use questions::check::Checked;
 use questions::check::check;
-use runtime::instruction::Instruction;
-use runtime::operands::reg_of;
-use steps::answer::Answer;
+use runtime::function::emit_instruction;
+use runtime::opcode;
+use steps::answer::ANY;
 use steps::answer::Lowered;
-use steps::answer::is_refused;
-use steps::answer::place_of;
-use steps::answer::register_of;
-use steps::kinds::Condition;
-use steps::kinds::condition_of;
-use steps::single::emit_test;
-use steps::step::emit;
-use syntax::ast::node_at;
+use steps::answer::answered;
+use steps::answer::is_refusal;
+use steps::answer::number_of;
+use steps::answer::refused;
+use steps::answer::reg_of;
+use steps::answer::value_of;
+use syntax::ast::node_word;
+use words::FULL;
+use words::counted;
 
 // The eight numbers that come back.
 pub struct Result {
@@ -69,92 +72,17 @@ pub fn numbers_of(r: Result) -> [u32; RESULT_WORDS]
     ]
 }
 
-// A root as a condition: `lower_jump_if_false` and `lower_jump_if_true`, by the outcome at which the jump is taken.
-fn lower_jump_if(
-    nodes: &[u8],
-    list: &[u8],
-    names: &[u8],
-    code: &mut [u8],
-    constants: &mut [u8],
-    marks: &mut [u8],
-    arity: u32,
-    state: State,
-    node: u32,
-    sense: bool,
-) -> Lowered
-    requires { ⌜ Ready (now nodes) (now list) (now names) arity ⌝ }
-    ensures { λ r. ⌜ answered Answer.Place (jumpNode (treeOf (now (nodes .entry)) (now (list .entry)) (now (names .entry))) (lowerExpression freeTemp (treeOf (now (nodes .entry)) (now (list .entry)) (now (names .entry)))) sense (lowerExpression freeTemp (treeOf (now (nodes .entry)) (now (list .entry)) (now (names .entry))) node) (nodeAt (words (now (nodes .entry))) node)
-        (made (words (now (code .entry))) (words (now (constants .entry))) (words (now (marks .entry))) state))
-        ≡ seen (made (words (now (code .exit))) (words (now (constants .exit))) (words (now (marks .exit))) (r .state)) (r .answer) ⌝ }
-{
-    let kind = node_at(nodes, node);
-    let condition = condition_of(kind);
-    match condition {
-        Condition::Compared {
-            comparison,
-            left,
-            right,
-        } => lower_fused(
-            nodes,
-            list,
-            names,
-            code,
-            constants,
-            marks,
-            arity,
-            state,
-            node,
-            sense,
-            comparison,
-            left,
-            right,
-        ),
-        Condition::Tested => {
-            let r = lower_materializing(
-                nodes,
-                list,
-                names,
-                code,
-                constants,
-                marks,
-                arity,
-                state,
-                node,
-                Dest::Any,
-            );
-            let a = r.answer;
-            if is_refused(a) {
-                return r;
-            }
-            let s = r.state;
-            let src = register_of(a);
-            emit_test(code, s, sense, src)
-        }
-    }
-}
-
 // The arguments patched, and then the answer.
 fn patched(code: &mut [u8], marks: &[u8], state: State, place: u32) -> Lowered
-    ensures step { λ r. ⌜ ((p : List ℕ) → answered Answer.Place (bind (patchArguments (made (words (now (code .entry))) p (words (now (marks .entry))) state)) (λ x. ret place))
-        ≡ seen (made (words (now (code .exit))) p (words (now (marks .entry))) (r .state)) (r .answer)) ⌝ }
+    ensures step { λ r. ⌜ ((t : Tree) (p : List ℕ) → settled (bind (patchArguments (made (words (now (code .entry))) p (words (now (marks .entry))) state)) (λ x. ret place))
+        ≡ seen t placeAt (made (words (now (code .exit))) p (words (now (marks .entry))) (r .state)) (r .answer)) ⌝ }
     ensures tail { λ r. ⌜ tail (now (code .exit)) ≡ tail (now (code .entry)) ⌝ }
 {
     let registers = state.registers;
     let done = patch_arguments(code, marks, state.marks, registers.frame_size);
     match done {
-        Patched::Done => Lowered {
-            state,
-            answer: Answer::Place(place),
-        },
-        Patched::Refused { refusal, place } => Lowered {
-            state,
-            answer: Answer::Refused(Error {
-                refusal,
-                place,
-                start: 0,
-                end: 0,
-            }),
-        },
+        Patched::Done => answered(state, place),
+        Patched::Refused { refusal, place } => refused(state, refusal, place),
     }
 }
 
@@ -166,41 +94,26 @@ fn lower_value(
     code: &mut [u8],
     constants: &mut [u8],
     marks: &mut [u8],
-    arity: u32,
     state: State,
     root: u32,
 ) -> Lowered
-    requires { ⌜ Ready (now nodes) (now list) (now names) arity ⌝ }
-    ensures { λ r. ⌜ answered Answer.Place (lowerRoot freeTemp (treeOf (now (nodes .entry)) (now (list .entry)) (now (names .entry))) 0 root
-        (made (words (now (code .entry))) (words (now (constants .entry))) (words (now (marks .entry))) state))
-        ≡ seen (made (words (now (code .exit))) (words (now (constants .exit))) (words (now (marks .exit))) (r .state)) (r .answer) ⌝ }
+    requires { ⌜ Ready (now nodes) (now list) (now names) root ⌝ }
+    ensures { λ r. ⌜ Lowers (λ t. placeAt) (λ t. lowerRoot freeTemp t 0 root) (now (nodes .entry)) (now (list .entry)) (now (names .entry))
+        (now (code .entry)) (now (constants .entry)) (now (marks .entry)) (now (code .exit)) (now (constants .exit)) (now (marks .exit)) state r ⌝ }
 {
-    let mut r = lower_materializing(
-        nodes,
-        list,
-        names,
-        code,
-        constants,
-        marks,
-        arity,
-        state,
-        root,
-        Dest::Any,
-    );
-    let a1 = r.answer;
-    if is_refused(a1) {
+    let f = peek(nodes, names, code, constants, state, root, REGISTER);
+    let r = lower_materializing(nodes, list, names, code, constants, marks, state, f, ANY);
+    if is_refusal(r.answer) {
         return r;
     }
-    let s1 = r.state;
-    let src = register_of(a1);
-    let from = reg_of(src);
-    r = emit(code, s1, Instruction::Return { src: from });
-    let a2 = r.answer;
-    if is_refused(a2) {
-        return r;
+    let src = value_of(r.answer);
+    let mut s = r.state;
+    let n = emit_instruction(code, s.instructions, opcode::RETURN, reg_of(src), 0, 0);
+    if n == FULL {
+        return refused(s, Refusal::Code, 0);
     }
-    let s2 = r.state;
-    patched(code, marks, s2, 0)
+    s.instructions = counted(s.instructions, n);
+    patched(code, marks, s, 0)
 }
 
 // Modes 1 and 2: the root as a condition. The answer is the jump's place.
@@ -211,15 +124,13 @@ fn lower_condition(
     code: &mut [u8],
     constants: &mut [u8],
     marks: &mut [u8],
-    arity: u32,
     state: State,
     root: u32,
     sense: bool,
 ) -> Lowered
-    requires { ⌜ Ready (now nodes) (now list) (now names) arity ⌝ }
-    ensures { λ r. ⌜ answered Answer.Place (conditional (treeOf (now (nodes .entry)) (now (list .entry)) (now (names .entry))) sense root
-        (made (words (now (code .entry))) (words (now (constants .entry))) (words (now (marks .entry))) state))
-        ≡ seen (made (words (now (code .exit))) (words (now (constants .exit))) (words (now (marks .exit))) (r .state)) (r .answer) ⌝ }
+    requires { ⌜ Ready (now nodes) (now list) (now names) root ⌝ }
+    ensures { λ r. ⌜ Lowers (λ t. placeAt) (λ t. conditional t sense root) (now (nodes .entry)) (now (list .entry)) (now (names .entry))
+        (now (code .entry)) (now (constants .entry)) (now (marks .entry)) (now (code .exit)) (now (constants .exit)) (now (marks .exit)) state r ⌝ }
 {
     let r = lower_jump_if(
         nodes,
@@ -228,18 +139,15 @@ fn lower_condition(
         code,
         constants,
         marks,
-        arity,
         state,
         root,
         sense,
     );
-    let a = r.answer;
-    if is_refused(a) {
+    if is_refusal(r.answer) {
         return r;
     }
     let s = r.state;
-    let jump = place_of(a);
-    patched(code, marks, s, jump)
+    patched(code, marks, s, value_of(r.answer))
 }
 
 fn lower_root(
@@ -249,28 +157,16 @@ fn lower_root(
     code: &mut [u8],
     constants: &mut [u8],
     marks: &mut [u8],
-    arity: u32,
     state: State,
     mode: u32,
     root: u32,
 ) -> Lowered
-    requires { ⌜ Ready (now nodes) (now list) (now names) arity ⌝ }
-    ensures { λ r. ⌜ answered Answer.Place (lowerRoot freeTemp (treeOf (now (nodes .entry)) (now (list .entry)) (now (names .entry))) mode root
-        (made (words (now (code .entry))) (words (now (constants .entry))) (words (now (marks .entry))) state))
-        ≡ seen (made (words (now (code .exit))) (words (now (constants .exit))) (words (now (marks .exit))) (r .state)) (r .answer) ⌝ }
+    requires { ⌜ Ready (now nodes) (now list) (now names) root ⌝ }
+    ensures { λ r. ⌜ Lowers (λ t. placeAt) (λ t. lowerRoot freeTemp t mode root) (now (nodes .entry)) (now (list .entry)) (now (names .entry))
+        (now (code .entry)) (now (constants .entry)) (now (marks .entry)) (now (code .exit)) (now (constants .exit)) (now (marks .exit)) state r ⌝ }
 {
     match mode {
-        0 => lower_value(
-            nodes,
-            list,
-            names,
-            code,
-            constants,
-            marks,
-            arity,
-            state,
-            root,
-        ),
+        0 => lower_value(nodes, list, names, code, constants, marks, state, root),
         1 => lower_condition(
             nodes,
             list,
@@ -278,7 +174,6 @@ fn lower_root(
             code,
             constants,
             marks,
-            arity,
             state,
             root,
             false,
@@ -290,7 +185,6 @@ fn lower_root(
             code,
             constants,
             marks,
-            arity,
             state,
             root,
             true,
@@ -314,50 +208,78 @@ fn refused_result(refusal: Refusal, place: u32) -> Result
     }
 }
 
-// The numbers of what was made: on a refusal the last two are 0.
-fn result_of(lowered: Lowered, arity: u32) -> Result
-    ensures { λ r. ⌜ numbers r ≡ resultOf arity (lowered .state) (lowered .answer) ⌝ }
+// The numbers of the refusals that name a node.
+const UNDECLARED: u32 = 9;
+
+const ELSE: u32 = 11;
+
+const KEY: u32 = 12;
+
+const UNMARKED: u32 = 15;
+
+// The last refusal.
+const LAST_REFUSAL: u32 = 19;
+
+// Whether a refusal names a node, whose span is told.
+fn names_node(number: u32) -> bool
+    ensures { λ r. ⌜ r ≡ namesNode (refusalOf number) ⌝ }
+{
+    (number == UNDECLARED) | (number == ELSE) | (number == KEY) | (number == UNMARKED)
+}
+
+// The number of the refusal that a number stands for: 1 to 19 stand for themselves.
+fn refusal_number(number: u32) -> u32
+    ensures { λ r. ⌜ r ≡ refusalNumber (refusalOf number) ⌝ }
+{
+    if number == 0 {
+        return 1;
+    }
+    if number < LAST_REFUSAL {
+        return number;
+    }
+    LAST_REFUSAL
+}
+
+// A word of the span of the node that a refusal names; 0 if it names none.
+fn span_word(nodes: &[u8], number: u32, place: u32, k: u32) -> u32
+    ensures { λ r. ⌜ r ≡ cond (namesNode (refusalOf number)) (nodeWord (words (now (nodes .entry))) place k) 0 ⌝ }
+{
+    if names_node(number) {
+        return node_word(nodes, place, k);
+    }
+    0
+}
+
+// The numbers of what was made. On a refusal the last two are 0, and the span is that of the node that it names.
+fn result_of(nodes: &[u8], lowered: Lowered, arity: u32) -> Result
+    ensures { λ r. ⌜ ((list names k p m : List ℕ) → numbers r ≡ answered arity (seen (treeOf (now (nodes .entry)) list names) placeAt (made k p m (lowered .state)) (lowered .answer)) .result) ⌝ }
 {
     let s = lowered.state;
-    let a = lowered.answer;
     let registers = s.registers;
-    let instructions = s.instructions;
-    let constants = s.constants;
-    let frame_size = registers.frame_size;
-    match a {
-        Answer::Operand(_) => Result {
-            number: 0,
-            place: 0,
-            start: 0,
-            end: 0,
-            instructions,
-            constants,
-            frame_size,
-            arity,
-        },
-        Answer::Place(place) => Result {
-            number: 0,
+    let a = lowered.answer;
+    let place = value_of(a);
+    if is_refusal(a) {
+        let number = number_of(a);
+        return Result {
+            number: refusal_number(number),
             place,
-            start: 0,
-            end: 0,
-            instructions,
-            constants,
-            frame_size,
-            arity,
-        },
-        Answer::Refused(e) => {
-            let refusal = e.refusal;
-            Result {
-                number: refusal.number(),
-                place: e.place,
-                start: e.start,
-                end: e.end,
-                instructions,
-                constants,
-                frame_size: 0,
-                arity: 0,
-            }
-        }
+            start: span_word(nodes, number, place, 4),
+            end: span_word(nodes, number, place, 5),
+            instructions: s.instructions,
+            constants: s.constants,
+            frame_size: 0,
+            arity: 0,
+        };
+    }
+    Result {
+        number: 0,
+        place,
+        start: 0,
+        end: 0,
+        instructions: s.instructions,
+        constants: s.constants,
+        frame_size: registers.frame_size,
+        arity,
     }
 }
 
@@ -396,12 +318,11 @@ fn lower_checked(
         &mut code[..whole_code],
         &mut constants[..whole_constants],
         &mut marks[..whole_marks],
-        arity,
         state,
         mode,
         root,
     );
-    result_of(lowered, arity)
+    result_of(nodes, lowered, arity)
 }
 
 // Lowers the tree at `root`: the numbers that come back, and every byte of the three buffers, are the definition's, whatever the bytes are.

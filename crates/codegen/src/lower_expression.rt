@@ -1,69 +1,76 @@
-// The walk (kaori's codegen/lower_expression.rs, and `lower_materializing` and `lower_jump_if_false` of lower_ast.rs): a node is lowered by
-// lowering the nodes that it names, which are lower. One function a kind. Each has one call in the cycle, and one result and one state, so that
-// the stack holds the deepest tree (docs/DECISIONS.md).
+// The walk (kaori's codegen/lower_expression.rs, and `lower_materializing` and `lower_jump_if_false` of lower_ast.rs): a node is lowered by lowering the nodes
+// that it names, which are lower. One function an arm, in kaori's order. `dest` is the register that is to hold the value, or ANY. A child is tried first
+// (`peek`, `peek_into`), and walked if it is not flat. A state that is passed on is a copy of its own: the walk's own state then stays in machine registers.
 ghost use mathlib.Core.Path.{_≡_};
-ghost use mathlib.Core.Option.{some};
-ghost use Prim.Native.Nat.{_<_};
+ghost use mathlib.Core.Logic.{_≢_, _⊎_};
+ghost use mathlib.Core.Bool.{true, false, cond};
+ghost use mathlib.Core.List.{List, [], _∷_};
+ghost use Prim.Native.Nat.{ℕ, _≤_};
+ghost use lib.Dec.{eqb};
+ghost use lib.ListN.{length};
 ghost use Rattle.words.specs.Words.{words};
-ghost use Rattle.syntax.specs.declared.ast.Node.{Node};
-ghost use Rattle.syntax.specs.Ast.{nodeAt};
-ghost use Rattle.lowering.specs.Tree.{treeOf};
-ghost use Rattle.lowering.specs.Checked.{Below};
-ghost use Rattle.lowering.specs.Walk.{made};
+ghost use Rattle.syntax.specs.Ops.{binaryOp, unaryOp};
+ghost use Rattle.syntax.specs.Ast.{absent, nodeAt};
+ghost use Rattle.runtime.specs.declared.instruction.Instruction.{Instruction};
+ghost use Rattle.runtime.specs.Instruction.{wordsOf};
+ghost use Rattle.lowering.specs.Operators.{unary};
+ghost use Rattle.lowering.specs.declared.Dest.{Dest};
+ghost use Rattle.lowering.specs.Tree.{Tree, treeOf};
+ghost use Rattle.lowering.specs.Walk.{Walk, made};
 ghost use Rattle.lowering.specs.Steps.{freeTemp};
-ghost use Rattle.lowering.specs.Lower.{constant, nameOf, binarySources, lowerMaterializing, lowerEntry, fused, lowerExpression, lowerJumpIfFalse};
-ghost use Rattle.steps.specs.Answers.{seen, answered, asRegister};
-ghost use Rattle.steps.specs.Kinds.{singleNode};
-ghost use Rattle.codegen.specs.Ready.{Ready, EntryBelow, arm};
+ghost use Rattle.lowering.specs.Literals.{literal};
+ghost use Rattle.lowering.specs.Lower.{nameOf, storeKeyed, lowerArguments, lowerEntry, tested, jumpNode, lowerExpression, lowerJumpIfFalse};
+ghost use Rattle.steps.specs.Answers.{any, registerAt, destOf, operandAt, sourceAt, placeAt, unitAt, settled, seen, isInner, valueOf, DestOrRefusal};
+ghost use Rattle.codegen.specs.Ready.{InArena, wordOf, Ready, ReadyTo, EntryBelow, Lowers};
+ghost use Rattle.codegen.specs.Flat.{Falling};
+ghost use Rattle.codegen.specs.Kinds.{nameKind, binaryKind, unaryKind, notKind, andKind, orKind, ifKind, blockKind, callKind, propertyKind, mapKind, onlyOperand, keyOperand, setOpcode, twoLiterals, isCompared};
+use crate::flat::OPERAND;
+use crate::flat::REGISTER;
+use crate::flat::binary_operation;
+use crate::flat::fused_jump;
+use crate::flat::peek;
+use crate::flat::peek_into;
+use crate::flat::peek_jump;
+use crate::read::find;
+use crate::read::literal;
+use crate::read::node_word;
 use diagnostics::Refusal;
-use environment::Register;
-use lowering::Dest;
+use lower_ast::mark_argument;
 use lowering::State;
-use runtime::instruction::Instruction;
+use operators::binary_rr;
+use operators::is_comparison;
+use operators::jump_if;
+use operators::swaps;
+use operators::unary;
+use runtime::function::emit_instruction;
+use runtime::function::store_constant;
+use runtime::opcode;
 use runtime::operand::Operand;
-use runtime::operands::reg_of;
-use runtime::value::number;
-use steps::answer::Answer;
+use steps::answer::ANY;
+use steps::answer::LITERAL;
 use steps::answer::Lowered;
-use steps::answer::held_by;
-use steps::answer::in_register;
-use steps::answer::is_refused;
-use steps::answer::is_register;
-use steps::answer::operand_of;
-use steps::answer::place_of;
-use steps::answer::register_of;
-use steps::binary::lower_binary_kr;
-use steps::binary::lower_binary_rk;
-use steps::binary::lower_binary_rr;
-use steps::jump::lower_fused_kr;
-use steps::jump::lower_fused_rk;
-use steps::jump::lower_fused_rr;
-use steps::jump::patch_to_next;
-use steps::kinds::Condition;
-use steps::kinds::Named;
-use steps::kinds::Single;
-use steps::kinds::condition_of;
-use steps::kinds::name_of;
-use steps::mark::mark;
-use steps::name::error_at;
-use steps::name::lower_name;
-use steps::property::set_keyed;
-use steps::property::set_named;
-use steps::single::emit_test;
-use steps::single::finish_single;
+use steps::answer::NONE;
+use steps::answer::answered;
+use steps::answer::is_inner;
+use steps::answer::is_refusal;
+use steps::answer::local;
+use steps::answer::refused;
+use steps::answer::reg_of;
+use steps::answer::value_of;
+use steps::sources::field_of;
+use steps::sources::first_of;
+use steps::sources::pooled_by;
 use steps::step::destination;
-use steps::step::emit;
-use steps::step::finish;
 use steps::step::load_constant;
-use steps::step::materialized;
+use steps::step::patch_to_next;
 use syntax::ast::ABSENT;
-use syntax::ast::Node;
-use syntax::ast::node_at;
-use syntax::ops::BinaryOp;
-use syntax::ops::Comparison;
+use syntax::kind;
+use words::FULL;
+use words::counted;
 use words::word;
 
-// A node as an expression: its operand, which may be a constant that is not pooled yet.
+// A node as an expression, by its kind. A literal is LITERAL, and nothing is done. The arms that go deep are asked for first: the compiler inlines what it
+// takes for frequent (6 ns a node against one match in kaori's order).
 fn lower_expression(
     nodes: &[u8],
     list: &[u8],
@@ -71,205 +78,63 @@ fn lower_expression(
     code: &mut [u8],
     constants: &mut [u8],
     marks: &mut [u8],
-    arity: u32,
     state: State,
     node: u32,
-    dest: Dest,
+    dest: u32,
 ) -> Lowered
-    requires { ⌜ Ready (now nodes) (now list) (now names) arity ⌝ }
-    ensures { λ r. ⌜ answered Answer.Operand (lowerExpression freeTemp (treeOf (now (nodes .entry)) (now (list .entry)) (now (names .entry))) node dest
-        (made (words (now (code .entry))) (words (now (constants .entry))) (words (now (marks .entry))) state))
-        ≡ seen (made (words (now (code .exit))) (words (now (constants .exit))) (words (now (marks .exit))) (r .state)) (r .answer) ⌝ }
+    requires { ⌜ ReadyTo (now nodes) (now list) (now names) node dest ⌝ }
+    ensures { λ r. ⌜ Lowers (λ t. operandAt (nodeAt (t .nodes) node)) (λ t. lowerExpression freeTemp t node (destOf dest)) (now (nodes .entry)) (now (list .entry)) (now (names .entry))
+        (now (code .entry)) (now (constants .entry)) (now (marks .entry)) (now (code .exit)) (now (constants .exit)) (now (marks .exit)) state r ⌝ }
 {
-    let kind = node_at(nodes, node);
-    match kind {
-        Node::Number { low, high } => {
-            let x = number(low, high);
-            Lowered {
-                state,
-                answer: Answer::Operand(Operand::Number(x)),
-            }
+    let kind = node_word(nodes, node, 0);
+    let s = state;
+    if (kind::LOGICAL_AND <= kind) & (kind <= kind::IF) {
+        if kind == kind::IF {
+            return lower_if(nodes, list, names, code, constants, marks, s, node, dest);
         }
-        Node::String(symbol) => Lowered {
-            state,
-            answer: Answer::Operand(Operand::String(symbol)),
-        },
-        Node::Boolean(b) => Lowered {
-            state,
-            answer: Answer::Operand(Operand::Boolean(b)),
-        },
-        Node::Nil => Lowered {
-            state,
-            answer: Answer::Operand(Operand::Nil),
-        },
-        Node::Identifier(symbol) => lower_name(
-            nodes,
-            names,
-            code,
-            arity,
-            state,
-            node,
-            symbol,
-            dest,
-        ),
-        Node::Binary {
-            operator,
-            left,
-            right,
-        } => lower_binary(
+        return lower_logical(nodes, list, names, code, constants, marks, s, node, dest);
+    }
+    if kind <= kind::LOGICAL_NOT {
+        if kind == kind::BINARY {
+            return lower_binary(nodes, list, names, code, constants, marks, s, node, dest);
+        }
+        if kind < kind::IDENTIFIER {
+            return answered(s, LITERAL);
+        }
+        if kind == kind::IDENTIFIER {
+            return lower_name(nodes, names, code, s, node, dest);
+        }
+        return lower_unary(nodes, list, names, code, constants, marks, s, node, dest);
+    }
+    match kind {
+        kind::BLOCK => lower_block(nodes, list, names, code, constants, marks, s, node, dest),
+        kind::FUNCTION_CALL => lower_call(
             nodes,
             list,
             names,
             code,
             constants,
             marks,
-            arity,
-            state,
+            s,
             node,
-            operator,
-            left,
-            right,
             dest,
         ),
-        Node::Unary { operator, operand } => lower_unary(
+        kind::PROPERTY_ACCESS => lower_property(
             nodes,
             list,
             names,
             code,
             constants,
             marks,
-            arity,
-            state,
+            s,
             node,
-            Single::Operator(operator),
-            operand,
             dest,
         ),
-        Node::LogicalNot(operand) => lower_unary(
-            nodes,
-            list,
-            names,
-            code,
-            constants,
-            marks,
-            arity,
-            state,
-            node,
-            Single::Not,
-            operand,
-            dest,
-        ),
-        Node::LogicalAnd { left, right } => lower_and(
-            nodes,
-            list,
-            names,
-            code,
-            constants,
-            marks,
-            arity,
-            state,
-            node,
-            left,
-            right,
-            dest,
-        ),
-        Node::LogicalOr { left, right } => lower_or(
-            nodes,
-            list,
-            names,
-            code,
-            constants,
-            marks,
-            arity,
-            state,
-            node,
-            left,
-            right,
-            dest,
-        ),
-        Node::If {
-            condition,
-            then_branch,
-            else_branch,
-        } => lower_if(
-            nodes,
-            list,
-            names,
-            code,
-            constants,
-            marks,
-            arity,
-            state,
-            node,
-            condition,
-            then_branch,
-            else_branch,
-            dest,
-        ),
-        Node::Block { tail } => lower_block(
-            nodes,
-            list,
-            names,
-            code,
-            constants,
-            marks,
-            arity,
-            state,
-            node,
-            tail,
-            dest,
-        ),
-        Node::FunctionCall {
-            callee,
-            first,
-            count,
-        } => lower_call(
-            nodes,
-            list,
-            names,
-            code,
-            constants,
-            marks,
-            arity,
-            state,
-            node,
-            callee,
-            first,
-            count,
-            dest,
-        ),
-        Node::PropertyAccess { object, property } => lower_unary(
-            nodes,
-            list,
-            names,
-            code,
-            constants,
-            marks,
-            arity,
-            state,
-            node,
-            Single::Property(property),
-            object,
-            dest,
-        ),
-        Node::Map { first, count } => lower_map(
-            nodes,
-            list,
-            names,
-            code,
-            constants,
-            marks,
-            arity,
-            state,
-            node,
-            first,
-            count,
-            dest,
-        ),
+        _ => lower_map(nodes, list, names, code, constants, marks, s, node, dest),
     }
 }
 
-// A node in a register: a constant is pooled and loaded.
+// A child that was peeked at: it is done, or the node that it comes to is walked, from the state before the peek.
 pub(crate) fn lower_materializing(
     nodes: &[u8],
     list: &[u8],
@@ -277,38 +142,61 @@ pub(crate) fn lower_materializing(
     code: &mut [u8],
     constants: &mut [u8],
     marks: &mut [u8],
-    arity: u32,
     state: State,
-    node: u32,
-    dest: Dest,
+    peeked: Lowered,
+    dest: u32,
 ) -> Lowered
-    requires { ⌜ Ready (now nodes) (now list) (now names) arity ⌝ }
-    ensures { λ r. ⌜ answered asRegister (lowerMaterializing (lowerExpression freeTemp (treeOf (now (nodes .entry)) (now (list .entry)) (now (names .entry))) node) dest
-        (made (words (now (code .entry))) (words (now (constants .entry))) (words (now (marks .entry))) state))
-        ≡ seen (made (words (now (code .exit))) (words (now (constants .exit))) (words (now (marks .exit))) (r .state)) (r .answer) ⌝ }
+    requires { ⌜ (isInner (peeked .answer) ≡ true → ReadyTo (now nodes) (now list) (now names) (valueOf (peeked .answer)) dest) ⌝ }
+    ensures walked { λ r. ⌜ (isInner (peeked .answer) ≡ true → Lowers (λ t. operandAt (nodeAt (t .nodes) (valueOf (peeked .answer)))) (λ t. lowerExpression freeTemp t (valueOf (peeked .answer)) (destOf dest)) (now (nodes .entry)) (now (list .entry)) (now (names .entry))
+        (now (code .entry)) (now (constants .entry)) (now (marks .entry)) (now (code .exit)) (now (constants .exit)) (now (marks .exit)) state r) ⌝ }
+    ensures done { λ r. ⌜ (isInner (peeked .answer) ≡ false → (r ≡ peeked) × ((words (now (code .exit)) ≡ words (now (code .entry))) × ((words (now (constants .exit)) ≡ words (now (constants .entry))) × (words (now (marks .exit)) ≡ words (now (marks .entry)))))) ⌝ }
 {
-    let r = lower_expression(
-        nodes,
-        list,
-        names,
-        code,
-        constants,
-        marks,
-        arity,
-        state,
-        node,
-        dest,
-    );
-    let a = r.answer;
-    if is_refused(a) {
-        return r;
+    let answer = peeked.answer;
+    if is_inner(answer) {
+        let t = state;
+        let node = value_of(answer);
+        return lower_expression(nodes, list, names, code, constants, marks, t, node, dest);
     }
-    let s = r.state;
-    let src = operand_of(a);
-    materialized(code, constants, s, src, dest)
+    peeked
 }
 
-// Destination, left, right; then constants pooled, one instruction. Two literals are both loaded.
+// Name: its own register, or a Move if another destination was given. Takes nothing.
+fn lower_name(
+    nodes: &[u8],
+    names: &[u8],
+    code: &mut [u8],
+    state: State,
+    node: u32,
+    dest: u32,
+) -> Lowered
+    requires { ⌜ (length (words (now names)) ≤ 256) × (InArena (now nodes) node × ((wordOf (now nodes) node 0 ≡ nameKind) × (dest ≤ any))) ⌝ }
+    ensures { λ r. ⌜ ((list p m : List ℕ) → settled (lowerExpression freeTemp (treeOf (now (nodes .entry)) list (now (names .entry))) node (destOf dest) (made (words (now (code .entry))) p m state))
+        ≡ seen (treeOf (now (nodes .entry)) list (now (names .entry))) (operandAt (nodeAt (words (now (nodes .entry))) node)) (made (words (now (code .exit))) p m (r .state)) (r .answer)) ⌝ }
+{
+    let mut s = state;
+    let register = find(names, node_word(nodes, node, 1));
+    if register == NONE {
+        return refused(s, Refusal::Undeclared, node);
+    }
+    if (dest == ANY) | (dest == register) {
+        return answered(s, register);
+    }
+    let n = emit_instruction(
+        code,
+        s.instructions,
+        opcode::MOVE,
+        reg_of(dest),
+        reg_of(register),
+        0,
+    );
+    if n == FULL {
+        return refused(s, Refusal::Code, 0);
+    }
+    s.instructions = counted(s.instructions, n);
+    answered(s, dest)
+}
+
+// Binary: destination first, left, right, then constants pooled, one instruction. Gives back what the operands held.
 fn lower_binary(
     nodes: &[u8],
     list: &[u8],
@@ -316,159 +204,118 @@ fn lower_binary(
     code: &mut [u8],
     constants: &mut [u8],
     marks: &mut [u8],
-    arity: u32,
     state: State,
     node: u32,
-    operator: BinaryOp,
-    left: u32,
-    right: u32,
-    dest: Dest,
+    dest: u32,
 ) -> Lowered
-    requires { ⌜ (Ready (now nodes) (now list) (now names) arity) × Below (treeOf (now nodes) (now list) (now names)) node (Node.Binary operator left right) ⌝ }
-    ensures { λ r. ⌜ answered Answer.Operand (arm (treeOf (now (nodes .entry)) (now (list .entry)) (now (names .entry))) node (Node.Binary operator left right) dest
-        (made (words (now (code .entry))) (words (now (constants .entry))) (words (now (marks .entry))) state))
-        ≡ seen (made (words (now (code .exit))) (words (now (constants .exit))) (words (now (marks .exit))) (r .state)) (r .answer) ⌝ }
+    requires { ⌜ (ReadyTo (now nodes) (now list) (now names) node dest) × (wordOf (now nodes) node 0 ≡ binaryKind) ⌝ }
+    ensures { λ r. ⌜ Lowers (λ t. operandAt (nodeAt (t .nodes) node)) (λ t. lowerExpression freeTemp t node (destOf dest)) (now (nodes .entry)) (now (list .entry)) (now (names .entry))
+        (now (code .entry)) (now (constants .entry)) (now (marks .entry)) (now (code .exit)) (now (constants .exit)) (now (marks .exit)) state r ⌝ }
 {
-    let mut s = state;
-    let mut r = destination(s, dest);
-    let a1 = r.answer;
-    if is_refused(a1) {
-        return r;
+    let left = node_word(nodes, node, 2);
+    let right = node_word(nodes, node, 3);
+    let t = destination(state, dest);
+    if is_refusal(t.answer) {
+        return t;
     }
-    let s1 = r.state;
-    s = s1;
-    let d = register_of(a1);
-    r = lower_expression(
-        nodes,
-        list,
-        names,
-        code,
-        constants,
-        marks,
-        arity,
-        s,
-        left,
-        Dest::Any,
-    );
-    let a2 = r.answer;
-    if is_refused(a2) {
-        return r;
+    let d = value_of(t.answer);
+    let s1 = t.state;
+    let f1 = peek(nodes, names, code, constants, s1, left, OPERAND);
+    let r1 = lower_materializing(nodes, list, names, code, constants, marks, s1, f1, ANY);
+    if is_refusal(r1.answer) {
+        return r1;
     }
-    let s2 = r.state;
-    s = s2;
-    let x = operand_of(a2);
-    r = lower_expression(
-        nodes,
-        list,
-        names,
-        code,
-        constants,
-        marks,
-        arity,
-        s,
-        right,
-        Dest::Any,
-    );
-    let a3 = r.answer;
-    if is_refused(a3) {
-        return r;
+    let src1 = value_of(r1.answer);
+    let s2 = r1.state;
+    let f2 = peek(nodes, names, code, constants, s2, right, OPERAND);
+    let r2 = lower_materializing(nodes, list, names, code, constants, marks, s2, f2, ANY);
+    if is_refusal(r2.answer) {
+        return r2;
     }
-    let s3 = r.state;
-    s = s3;
-    let y = operand_of(a3);
-    if is_register(x) {
-        let src1 = held_by(x);
-        if is_register(y) {
-            let src2 = held_by(y);
-            return lower_binary_rr(code, s, operator, d, src1, src2);
-        }
-        return lower_binary_rk(code, constants, s, operator, d, src1, y);
+    let src2 = value_of(r2.answer);
+    let s3 = r2.state;
+    if (src1 == LITERAL) & (src2 == LITERAL) {
+        return lower_literals(nodes, code, constants, s3, node, d);
     }
-    if is_register(y) {
-        let src2 = held_by(y);
-        return lower_binary_kr(code, constants, s, operator, d, x, src2);
+    let e = binary_operation(nodes, code, constants, s3, node, d, src1, src2);
+    if is_refusal(e.answer) {
+        return e;
     }
-    load_both(
-        nodes,
-        list,
-        names,
-        code,
-        constants,
-        marks,
-        arity,
-        s,
-        node,
-        operator,
-        left,
-        right,
-        d,
-    )
+    let mut s = e.state;
+    let held = s.registers;
+    let held1 = held.give_back(src1);
+    let held2 = held1.give_back(src2);
+    s.registers = held2;
+    answered(s, d)
 }
 
-// Both operands of a binary node loaded, which are literals.
-fn load_both(
+// Binary, "Two literals are both loaded": each into a register that is taken, both given back.
+fn lower_literals(
     nodes: &[u8],
-    list: &[u8],
-    names: &[u8],
     code: &mut [u8],
     constants: &mut [u8],
-    marks: &mut [u8],
-    arity: u32,
     state: State,
     node: u32,
-    operator: BinaryOp,
-    left: u32,
-    right: u32,
-    d: Register,
+    d: u32,
 ) -> Lowered
-    requires { ⌜ (Ready (now nodes) (now list) (now names) arity) × Below (treeOf (now nodes) (now list) (now names)) node (Node.Binary operator left right) ⌝ }
-    ensures { λ r. ⌜ ((x y : Operand) → answered Answer.Operand (binarySources freeTemp (treeOf (now (nodes .entry)) (now (list .entry)) (now (names .entry))) (lowerExpression freeTemp (treeOf (now (nodes .entry)) (now (list .entry)) (now (names .entry)))) operator left right d (constant x) (constant y)
-        (made (words (now (code .entry))) (words (now (constants .entry))) (words (now (marks .entry))) state))
-        ≡ seen (made (words (now (code .exit))) (words (now (constants .exit))) (words (now (marks .exit))) (r .state)) (r .answer)) ⌝ }
+    requires { ⌜ Falling (now nodes) × (InArena (now nodes) node × (wordOf (now nodes) node 0 ≡ binaryKind)) ⌝ }
+    ensures { λ r. ⌜ ((list names m : List ℕ) → settled (twoLiterals (treeOf (now (nodes .entry)) list names) (binaryOp (wordOf (now (nodes .entry)) node 1)) (wordOf (now (nodes .entry)) node 2) (wordOf (now (nodes .entry)) node 3) (registerAt d) (made (words (now (code .entry))) (words (now (constants .entry))) m state))
+        ≡ seen (treeOf (now (nodes .entry)) list names) (λ w. Operand.Register (registerAt w)) (made (words (now (code .exit))) (words (now (constants .exit))) m (r .state)) (r .answer)) ⌝ }
+    ensures word { λ r. ⌜ DestOrRefusal d (r .answer) ⌝ }
 {
-    let mut s = state;
-    let mut r = lower_materializing(
-        nodes,
-        list,
-        names,
-        code,
-        constants,
-        marks,
-        arity,
-        s,
-        left,
-        Dest::Any,
-    );
-    let a1 = r.answer;
-    if is_refused(a1) {
-        return r;
+    let operator = node_word(nodes, node, 1);
+    let left = node_word(nodes, node, 2);
+    let right = node_word(nodes, node, 3);
+    let r1 = load_constant(code, constants, state, literal(nodes, left), ANY);
+    if is_refusal(r1.answer) {
+        return r1;
     }
-    let s1 = r.state;
-    s = s1;
-    let src1 = register_of(a1);
-    r = lower_materializing(
-        nodes,
-        list,
-        names,
-        code,
-        constants,
-        marks,
-        arity,
-        s,
-        right,
-        Dest::Any,
-    );
-    let a2 = r.answer;
-    if is_refused(a2) {
-        return r;
+    let s1 = r1.state;
+    let src1 = value_of(r1.answer);
+    let r2 = load_constant(code, constants, s1, literal(nodes, right), ANY);
+    if is_refusal(r2.answer) {
+        return r2;
     }
-    let s2 = r.state;
-    s = s2;
-    let src2 = register_of(a2);
-    lower_binary_rr(code, s, operator, d, src1, src2)
+    let mut s = r2.state;
+    let src2 = value_of(r2.answer);
+    let swap = swaps(operator);
+    let a = first_of(swap, reg_of(src1), reg_of(src2));
+    let b = first_of(swap, reg_of(src2), reg_of(src1));
+    let n = emit_instruction(code, s.instructions, binary_rr(operator), reg_of(d), a, b);
+    if n == FULL {
+        return refused(s, Refusal::Code, 0);
+    }
+    s.instructions = counted(s.instructions, n);
+    let held = s.registers;
+    let held1 = held.give_back(src1);
+    let held2 = held1.give_back(src2);
+    s.registers = held2;
+    answered(s, d)
 }
 
-// Destination, operand, one instruction; the operand's register is given back.
+// The operand of a unary operator or of not, and its opcode.
+fn only_operand(nodes: &[u8], node: u32) -> u32
+    requires { ⌜ InArena (now nodes) node ⌝ }
+    ensures { λ r. ⌜ r ≡ onlyOperand (now (nodes .entry)) node ⌝ }
+{
+    if node_word(nodes, node, 0) == kind::UNARY {
+        return node_word(nodes, node, 2);
+    }
+    node_word(nodes, node, 1)
+}
+
+fn only_opcode(nodes: &[u8], node: u32) -> u32
+    requires { ⌜ InArena (now nodes) node ⌝ }
+    ensures unary { λ r. ⌜ (wordOf (now (nodes .entry)) node 0 ≡ unaryKind → (d a : ℕ) → wordsOf (unary (unaryOp (wordOf (now (nodes .entry)) node 1)) d a) ≡ r ∷ d ∷ a ∷ 0 ∷ []) ⌝ }
+    ensures not { λ r. ⌜ (wordOf (now (nodes .entry)) node 0 ≢ unaryKind → (d a : ℕ) → wordsOf (Instruction.Not d a) ≡ r ∷ d ∷ a ∷ 0 ∷ []) ⌝ }
+{
+    if node_word(nodes, node, 0) == kind::UNARY {
+        return unary(node_word(nodes, node, 1));
+    }
+    opcode::NOT
+}
+
+// Unary, not: destination, operand, one instruction. Gives back what the operand held.
 fn lower_unary(
     nodes: &[u8],
     list: &[u8],
@@ -476,224 +323,99 @@ fn lower_unary(
     code: &mut [u8],
     constants: &mut [u8],
     marks: &mut [u8],
-    arity: u32,
     state: State,
     node: u32,
-    single: Single,
-    operand: u32,
-    dest: Dest,
+    dest: u32,
 ) -> Lowered
-    requires { ⌜ (Ready (now nodes) (now list) (now names) arity) × (operand < node) ⌝ }
-    ensures { λ r. ⌜ answered Answer.Operand (arm (treeOf (now (nodes .entry)) (now (list .entry)) (now (names .entry))) node (singleNode single operand) dest
-        (made (words (now (code .entry))) (words (now (constants .entry))) (words (now (marks .entry))) state))
-        ≡ seen (made (words (now (code .exit))) (words (now (constants .exit))) (words (now (marks .exit))) (r .state)) (r .answer) ⌝ }
+    requires { ⌜ (ReadyTo (now nodes) (now list) (now names) node dest) × ((wordOf (now nodes) node 0 ≡ unaryKind) ⊎ (wordOf (now nodes) node 0 ≡ notKind)) ⌝ }
+    ensures { λ r. ⌜ Lowers (λ t. operandAt (nodeAt (t .nodes) node)) (λ t. lowerExpression freeTemp t node (destOf dest)) (now (nodes .entry)) (now (list .entry)) (now (names .entry))
+        (now (code .entry)) (now (constants .entry)) (now (marks .entry)) (now (code .exit)) (now (constants .exit)) (now (marks .exit)) state r ⌝ }
 {
-    let mut s = state;
-    let mut r = destination(s, dest);
-    let a1 = r.answer;
-    if is_refused(a1) {
-        return r;
+    let operand = only_operand(nodes, node);
+    let t = destination(state, dest);
+    if is_refusal(t.answer) {
+        return t;
     }
-    let held = r.state;
-    s = held;
-    let d = register_of(a1);
-    r = lower_materializing(
-        nodes,
-        list,
-        names,
-        code,
-        constants,
-        marks,
-        arity,
-        s,
-        operand,
-        Dest::Any,
-    );
-    let a2 = r.answer;
-    if is_refused(a2) {
-        return r;
+    let d = value_of(t.answer);
+    let s1 = t.state;
+    let f1 = peek(nodes, names, code, constants, s1, operand, REGISTER);
+    let r1 = lower_materializing(nodes, list, names, code, constants, marks, s1, f1, ANY);
+    if is_refusal(r1.answer) {
+        return r1;
     }
-    let s2 = r.state;
-    s = s2;
-    let src = register_of(a2);
-    finish_single(code, constants, s, d, src, single)
+    let src = value_of(r1.answer);
+    let mut s = r1.state;
+    let opcode = only_opcode(nodes, node);
+    let n = emit_instruction(code, s.instructions, opcode, reg_of(d), reg_of(src), 0);
+    if n == FULL {
+        return refused(s, Refusal::Code, 0);
+    }
+    s.instructions = counted(s.instructions, n);
+    let held = s.registers;
+    let held1 = held.give_back(src);
+    s.registers = held1;
+    answered(s, d)
 }
 
-// Left into the destination, jump, right into the same.
-fn lower_and(
+// The jump over the right side of and, or.
+fn logical_jump(nodes: &[u8], node: u32) -> u32
+    requires { ⌜ InArena (now nodes) node ⌝ }
+    ensures and { λ r. ⌜ (wordOf (now (nodes .entry)) node 0 ≡ andKind → (a : ℕ) → wordsOf (Instruction.JumpIfFalse a 0) ≡ r ∷ a ∷ 0 ∷ 0 ∷ []) ⌝ }
+    ensures or { λ r. ⌜ (wordOf (now (nodes .entry)) node 0 ≢ andKind → (a : ℕ) → wordsOf (Instruction.JumpIfTrue a 0) ≡ r ∷ a ∷ 0 ∷ 0 ∷ []) ⌝ }
+{
+    if node_word(nodes, node, 0) == kind::LOGICAL_AND {
+        return opcode::JUMP_IF_FALSE;
+    }
+    opcode::JUMP_IF_TRUE
+}
+
+// And, or: left into the destination, jump, right into the same. Gives nothing back.
+fn lower_logical(
     nodes: &[u8],
     list: &[u8],
     names: &[u8],
     code: &mut [u8],
     constants: &mut [u8],
     marks: &mut [u8],
-    arity: u32,
     state: State,
     node: u32,
-    left: u32,
-    right: u32,
-    dest: Dest,
+    dest: u32,
 ) -> Lowered
-    requires { ⌜ (Ready (now nodes) (now list) (now names) arity) × Below (treeOf (now nodes) (now list) (now names)) node (Node.LogicalAnd left right) ⌝ }
-    ensures { λ r. ⌜ answered Answer.Operand (arm (treeOf (now (nodes .entry)) (now (list .entry)) (now (names .entry))) node (Node.LogicalAnd left right) dest
-        (made (words (now (code .entry))) (words (now (constants .entry))) (words (now (marks .entry))) state))
-        ≡ seen (made (words (now (code .exit))) (words (now (constants .exit))) (words (now (marks .exit))) (r .state)) (r .answer) ⌝ }
+    requires { ⌜ (ReadyTo (now nodes) (now list) (now names) node dest) × ((wordOf (now nodes) node 0 ≡ andKind) ⊎ (wordOf (now nodes) node 0 ≡ orKind)) ⌝ }
+    ensures { λ r. ⌜ Lowers (λ t. operandAt (nodeAt (t .nodes) node)) (λ t. lowerExpression freeTemp t node (destOf dest)) (now (nodes .entry)) (now (list .entry)) (now (names .entry))
+        (now (code .entry)) (now (constants .entry)) (now (marks .entry)) (now (code .exit)) (now (constants .exit)) (now (marks .exit)) state r ⌝ }
 {
-    let mut s = state;
-    let mut r = destination(s, dest);
-    let a1 = r.answer;
-    if is_refused(a1) {
-        return r;
+    let left = node_word(nodes, node, 1);
+    let right = node_word(nodes, node, 2);
+    let t = destination(state, dest);
+    if is_refusal(t.answer) {
+        return t;
     }
-    let s1 = r.state;
-    s = s1;
-    let d = register_of(a1);
-    r = lower_materializing(
-        nodes,
-        list,
-        names,
-        code,
-        constants,
-        marks,
-        arity,
-        s,
-        left,
-        Dest::To(d),
-    );
-    let a2 = r.answer;
-    if is_refused(a2) {
-        return r;
+    let d = value_of(t.answer);
+    let s1 = t.state;
+    let f1 = peek_into(nodes, names, code, constants, s1, left, d);
+    let r1 = lower_materializing(nodes, list, names, code, constants, marks, s1, f1, d);
+    if is_refusal(r1.answer) {
+        return r1;
     }
-    let s2 = r.state;
-    s = s2;
-    let src = register_of(a2);
-    let from = reg_of(src);
-    r = emit(
-        code,
-        s,
-        Instruction::JumpIfFalse {
-            src: from,
-            offset: 0,
-        },
-    );
-    let a3 = r.answer;
-    if is_refused(a3) {
-        return r;
+    let mut s = r1.state;
+    let jump = logical_jump(nodes, node);
+    let place = emit_instruction(code, s.instructions, jump, reg_of(d), 0, 0);
+    if place == FULL {
+        return refused(s, Refusal::Code, 0);
     }
-    let s3 = r.state;
-    s = s3;
-    let jump = place_of(a3);
-    r = lower_materializing(
-        nodes,
-        list,
-        names,
-        code,
-        constants,
-        marks,
-        arity,
-        s,
-        right,
-        Dest::To(d),
-    );
-    let a4 = r.answer;
-    if is_refused(a4) {
-        return r;
+    s.instructions = counted(s.instructions, place);
+    let f2 = peek_into(nodes, names, code, constants, s, right, d);
+    let r2 = lower_materializing(nodes, list, names, code, constants, marks, s, f2, d);
+    if is_refusal(r2.answer) {
+        return r2;
     }
-    let s4 = r.state;
-    s = s4;
-    patch_to_next(code, s, jump);
-    let answer = Answer::Operand(Operand::Register(d));
-    Lowered { state: s, answer }
+    let s2 = r2.state;
+    patch_to_next(code, place, s2.instructions);
+    answered(s2, d)
 }
 
-// The same for `or`.
-fn lower_or(
-    nodes: &[u8],
-    list: &[u8],
-    names: &[u8],
-    code: &mut [u8],
-    constants: &mut [u8],
-    marks: &mut [u8],
-    arity: u32,
-    state: State,
-    node: u32,
-    left: u32,
-    right: u32,
-    dest: Dest,
-) -> Lowered
-    requires { ⌜ (Ready (now nodes) (now list) (now names) arity) × Below (treeOf (now nodes) (now list) (now names)) node (Node.LogicalOr left right) ⌝ }
-    ensures { λ r. ⌜ answered Answer.Operand (arm (treeOf (now (nodes .entry)) (now (list .entry)) (now (names .entry))) node (Node.LogicalOr left right) dest
-        (made (words (now (code .entry))) (words (now (constants .entry))) (words (now (marks .entry))) state))
-        ≡ seen (made (words (now (code .exit))) (words (now (constants .exit))) (words (now (marks .exit))) (r .state)) (r .answer) ⌝ }
-{
-    let mut s = state;
-    let mut r = destination(s, dest);
-    let a1 = r.answer;
-    if is_refused(a1) {
-        return r;
-    }
-    let s1 = r.state;
-    s = s1;
-    let d = register_of(a1);
-    r = lower_materializing(
-        nodes,
-        list,
-        names,
-        code,
-        constants,
-        marks,
-        arity,
-        s,
-        left,
-        Dest::To(d),
-    );
-    let a2 = r.answer;
-    if is_refused(a2) {
-        return r;
-    }
-    let s2 = r.state;
-    s = s2;
-    let src = register_of(a2);
-    let from = reg_of(src);
-    r = emit(
-        code,
-        s,
-        Instruction::JumpIfTrue {
-            src: from,
-            offset: 0,
-        },
-    );
-    let a3 = r.answer;
-    if is_refused(a3) {
-        return r;
-    }
-    let s3 = r.state;
-    s = s3;
-    let jump = place_of(a3);
-    r = lower_materializing(
-        nodes,
-        list,
-        names,
-        code,
-        constants,
-        marks,
-        arity,
-        s,
-        right,
-        Dest::To(d),
-    );
-    let a4 = r.answer;
-    if is_refused(a4) {
-        return r;
-    }
-    let s4 = r.state;
-    s = s4;
-    patch_to_next(code, s, jump);
-    let answer = Answer::Operand(Operand::Register(d));
-    Lowered { state: s, answer }
-}
-
-// Condition, destination, then, jump, else. The registers of the condition stay held.
+// If: condition, destination, then, jump, else. What the condition holds stays held.
 fn lower_if(
     nodes: &[u8],
     list: &[u8],
@@ -701,101 +423,55 @@ fn lower_if(
     code: &mut [u8],
     constants: &mut [u8],
     marks: &mut [u8],
-    arity: u32,
     state: State,
     node: u32,
-    condition: u32,
-    then_branch: u32,
-    else_branch: u32,
-    dest: Dest,
+    dest: u32,
 ) -> Lowered
-    requires { ⌜ (Ready (now nodes) (now list) (now names) arity) × Below (treeOf (now nodes) (now list) (now names)) node (Node.If condition «then_branch» «else_branch») ⌝ }
-    ensures { λ r. ⌜ answered Answer.Operand (arm (treeOf (now (nodes .entry)) (now (list .entry)) (now (names .entry))) node (Node.If condition «then_branch» «else_branch») dest
-        (made (words (now (code .entry))) (words (now (constants .entry))) (words (now (marks .entry))) state))
-        ≡ seen (made (words (now (code .exit))) (words (now (constants .exit))) (words (now (marks .exit))) (r .state)) (r .answer) ⌝ }
+    requires { ⌜ (ReadyTo (now nodes) (now list) (now names) node dest) × (wordOf (now nodes) node 0 ≡ ifKind) ⌝ }
+    ensures { λ r. ⌜ Lowers (λ t. operandAt (nodeAt (t .nodes) node)) (λ t. lowerExpression freeTemp t node (destOf dest)) (now (nodes .entry)) (now (list .entry)) (now (names .entry))
+        (now (code .entry)) (now (constants .entry)) (now (marks .entry)) (now (code .exit)) (now (constants .exit)) (now (marks .exit)) state r ⌝ }
 {
-    let mut s = state;
-    let mut r = lower_jump_if_false(
-        nodes,
-        list,
-        names,
-        code,
-        constants,
-        marks,
-        arity,
-        s,
-        condition,
-    );
-    let a1 = r.answer;
-    if is_refused(a1) {
+    let condition = node_word(nodes, node, 1);
+    let then_branch = node_word(nodes, node, 2);
+    let else_branch = node_word(nodes, node, 3);
+    let r = lower_jump_if_false(nodes, list, names, code, constants, marks, state, condition);
+    if is_refusal(r.answer) {
         return r;
     }
-    let s1 = r.state;
-    s = s1;
-    let jump = place_of(a1);
-    r = destination(s, dest);
-    let a2 = r.answer;
-    if is_refused(a2) {
-        return r;
+    let jump_if_false = value_of(r.answer);
+    let s0 = r.state;
+    let t = destination(s0, dest);
+    if is_refusal(t.answer) {
+        return t;
     }
-    let s2 = r.state;
-    s = s2;
-    let d = register_of(a2);
-    r = lower_materializing(
-        nodes,
-        list,
-        names,
-        code,
-        constants,
-        marks,
-        arity,
-        s,
-        then_branch,
-        Dest::To(d),
-    );
-    let a3 = r.answer;
-    if is_refused(a3) {
-        return r;
+    let d = value_of(t.answer);
+    let s1 = t.state;
+    let f1 = peek_into(nodes, names, code, constants, s1, then_branch, d);
+    let r1 = lower_materializing(nodes, list, names, code, constants, marks, s1, f1, d);
+    if is_refusal(r1.answer) {
+        return r1;
     }
-    let s3 = r.state;
-    s = s3;
-    r = emit(code, s, Instruction::Jump { offset: 0 });
-    let a4 = r.answer;
-    if is_refused(a4) {
-        return r;
+    let mut s = r1.state;
+    let jump_end = emit_instruction(code, s.instructions, opcode::JUMP, 0, 0, 0);
+    if jump_end == FULL {
+        return refused(s, Refusal::Code, 0);
     }
-    let s4 = r.state;
-    s = s4;
-    let end = place_of(a4);
-    patch_to_next(code, s, jump);
+    s.instructions = counted(s.instructions, jump_end);
+    patch_to_next(code, jump_if_false, s.instructions);
     if else_branch == ABSENT {
-        let answer = error_at(nodes, Refusal::Else, node);
-        return Lowered { state: s, answer };
+        return refused(s, Refusal::Else, node);
     }
-    r = lower_materializing(
-        nodes,
-        list,
-        names,
-        code,
-        constants,
-        marks,
-        arity,
-        s,
-        else_branch,
-        Dest::To(d),
-    );
-    let a5 = r.answer;
-    if is_refused(a5) {
-        return r;
+    let f2 = peek_into(nodes, names, code, constants, s, else_branch, d);
+    let r2 = lower_materializing(nodes, list, names, code, constants, marks, s, f2, d);
+    if is_refusal(r2.answer) {
+        return r2;
     }
-    let s5 = r.state;
-    s = s5;
-    patch_to_next(code, s, end);
-    let answer = Answer::Operand(Operand::Register(d));
-    Lowered { state: s, answer }
+    let s2 = r2.state;
+    patch_to_next(code, jump_end, s2.instructions);
+    answered(s2, d)
 }
 
-// Destination, then the tail or nil.
+// Block: destination, then the tail or nil.
 fn lower_block(
     nodes: &[u8],
     list: &[u8],
@@ -803,52 +479,40 @@ fn lower_block(
     code: &mut [u8],
     constants: &mut [u8],
     marks: &mut [u8],
-    arity: u32,
     state: State,
     node: u32,
-    tail: u32,
-    dest: Dest,
+    dest: u32,
 ) -> Lowered
-    requires { ⌜ (Ready (now nodes) (now list) (now names) arity) × Below (treeOf (now nodes) (now list) (now names)) node (Node.Block tail) ⌝ }
-    ensures { λ r. ⌜ answered Answer.Operand (arm (treeOf (now (nodes .entry)) (now (list .entry)) (now (names .entry))) node (Node.Block tail) dest
-        (made (words (now (code .entry))) (words (now (constants .entry))) (words (now (marks .entry))) state))
-        ≡ seen (made (words (now (code .exit))) (words (now (constants .exit))) (words (now (marks .exit))) (r .state)) (r .answer) ⌝ }
+    requires { ⌜ (ReadyTo (now nodes) (now list) (now names) node dest) × (wordOf (now nodes) node 0 ≡ blockKind) ⌝ }
+    ensures { λ r. ⌜ Lowers (λ t. operandAt (nodeAt (t .nodes) node)) (λ t. lowerExpression freeTemp t node (destOf dest)) (now (nodes .entry)) (now (list .entry)) (now (names .entry))
+        (now (code .entry)) (now (constants .entry)) (now (marks .entry)) (now (code .exit)) (now (constants .exit)) (now (marks .exit)) state r ⌝ }
 {
-    let mut s = state;
-    let mut r = destination(s, dest);
-    let a1 = r.answer;
-    if is_refused(a1) {
-        return r;
+    let tail = node_word(nodes, node, 1);
+    let t = destination(state, dest);
+    if is_refusal(t.answer) {
+        return t;
     }
-    let s1 = r.state;
-    s = s1;
-    let d = register_of(a1);
+    let d = value_of(t.answer);
+    let s = t.state;
     if tail == ABSENT {
-        r = load_constant(code, constants, s, Operand::Nil, Dest::To(d));
-        let a2 = r.answer;
-        let s2 = r.state;
-        let answer = in_register(a2, d);
-        return Lowered { state: s2, answer };
+        let u = s;
+        let r = load_constant(code, constants, u, Operand::Nil, d);
+        if is_refusal(r.answer) {
+            return r;
+        }
+        let s1 = r.state;
+        return answered(s1, d);
     }
-    r = lower_materializing(
-        nodes,
-        list,
-        names,
-        code,
-        constants,
-        marks,
-        arity,
-        s,
-        tail,
-        Dest::To(d),
-    );
-    let a3 = r.answer;
-    let s3 = r.state;
-    let answer = in_register(a3, d);
-    Lowered { state: s3, answer }
+    let f1 = peek_into(nodes, names, code, constants, s, tail, d);
+    let r1 = lower_materializing(nodes, list, names, code, constants, marks, s, f1, d);
+    if is_refusal(r1.answer) {
+        return r1;
+    }
+    let s2 = r1.state;
+    answered(s2, d)
 }
 
-// The arguments, each aimed at its local and marked; then destination, callee, call.
+// Call: the arguments; then destination, callee, Call. Gives back what the callee held.
 fn lower_call(
     nodes: &[u8],
     list: &[u8],
@@ -856,92 +520,149 @@ fn lower_call(
     code: &mut [u8],
     constants: &mut [u8],
     marks: &mut [u8],
-    arity: u32,
     state: State,
     node: u32,
-    callee: u32,
-    first: u32,
-    count: u32,
-    dest: Dest,
+    dest: u32,
 ) -> Lowered
-    requires { ⌜ (Ready (now nodes) (now list) (now names) arity) × Below (treeOf (now nodes) (now list) (now names)) node (Node.FunctionCall callee first count) ⌝ }
-    ensures { λ r. ⌜ answered Answer.Operand (arm (treeOf (now (nodes .entry)) (now (list .entry)) (now (names .entry))) node (Node.FunctionCall callee first count) dest
-        (made (words (now (code .entry))) (words (now (constants .entry))) (words (now (marks .entry))) state))
-        ≡ seen (made (words (now (code .exit))) (words (now (constants .exit))) (words (now (marks .exit))) (r .state)) (r .answer) ⌝ }
+    requires { ⌜ (ReadyTo (now nodes) (now list) (now names) node dest) × (wordOf (now nodes) node 0 ≡ callKind) ⌝ }
+    ensures { λ r. ⌜ Lowers (λ t. operandAt (nodeAt (t .nodes) node)) (λ t. lowerExpression freeTemp t node (destOf dest)) (now (nodes .entry)) (now (list .entry)) (now (names .entry))
+        (now (code .entry)) (now (constants .entry)) (now (marks .entry)) (now (code .exit)) (now (constants .exit)) (now (marks .exit)) state r ⌝ }
 {
+    let callee = node_word(nodes, node, 1);
+    let count = node_word(nodes, node, 3);
+    let a = lower_arguments(nodes, list, names, code, constants, marks, state, node);
+    if is_refusal(a.answer) {
+        return a;
+    }
+    let s0 = a.state;
+    let t = destination(s0, dest);
+    if is_refusal(t.answer) {
+        return t;
+    }
+    let d = value_of(t.answer);
+    let s1 = t.state;
+    let f1 = peek(nodes, names, code, constants, s1, callee, REGISTER);
+    let r1 = lower_materializing(nodes, list, names, code, constants, marks, s1, f1, ANY);
+    if is_refusal(r1.answer) {
+        return r1;
+    }
+    let src = value_of(r1.answer);
+    let mut s = r1.state;
+    let n = emit_instruction(
+        code,
+        s.instructions,
+        opcode::CALL,
+        reg_of(d),
+        reg_of(src),
+        count,
+    );
+    if n == FULL {
+        return refused(s, Refusal::Code, 0);
+    }
+    s.instructions = counted(s.instructions, n);
+    let held = s.registers;
+    let held1 = held.give_back(src);
+    s.registers = held1;
+    answered(s, d)
+}
+
+// The arguments of a call: argument i into local i, and the last instruction marked.
+fn lower_arguments(
+    nodes: &[u8],
+    list: &[u8],
+    names: &[u8],
+    code: &mut [u8],
+    constants: &mut [u8],
+    marks: &mut [u8],
+    state: State,
+    node: u32,
+) -> Lowered
+    requires { ⌜ (Ready (now nodes) (now list) (now names) node) × (wordOf (now nodes) node 0 ≡ callKind) ⌝ }
+    ensures { λ r. ⌜ Lowers (λ t. unitAt) (λ t. lowerArguments t (lowerExpression freeTemp t) node (wordOf (now (nodes .entry)) node 2) (wordOf (now (nodes .entry)) node 3) 0) (now (nodes .entry)) (now (list .entry)) (now (names .entry))
+        (now (code .entry)) (now (constants .entry)) (now (marks .entry)) (now (code .exit)) (now (constants .exit)) (now (marks .exit)) state r ⌝ }
+{
+    let first = node_word(nodes, node, 2) as usize;
+    let count = node_word(nodes, node, 3);
     let mut s = state;
     let mut i: u32 = 0;
     while i < count {
-        let argument = word(list, (first as usize) + (i as usize));
-        let lowered = lower_materializing(
-            nodes,
-            list,
-            names,
-            code,
-            constants,
-            marks,
-            arity,
-            s,
-            argument,
-            Dest::To(Register::Local(i)),
-        );
-        let a1 = lowered.answer;
-        if is_refused(a1) {
-            return lowered;
+        let argument = word(list, first + (i as usize));
+        let d = local(i);
+        let f1 = peek_into(nodes, names, code, constants, s, argument, d);
+        let r1 = lower_materializing(nodes, list, names, code, constants, marks, s, f1, d);
+        if is_refusal(r1.answer) {
+            return r1;
         }
-        let s1 = lowered.state;
-        let marked = mark(nodes, marks, s1, node);
-        let a2 = marked.answer;
-        if is_refused(a2) {
-            return marked;
+        let s1 = r1.state;
+        s = s1;
+        if s.instructions == 0 {
+            return refused(s, Refusal::Unmarked, node);
         }
-        let s2 = marked.state;
-        s = s2;
+        let m = mark_argument(marks, s.marks, s.instructions);
+        if m == FULL {
+            return refused(s, Refusal::Marks, 0);
+        }
+        s.marks = counted(s.marks, m);
         i += 1;
     }
-    let mut r = destination(s, dest);
-    let a3 = r.answer;
-    if is_refused(a3) {
-        return r;
-    }
-    let s3 = r.state;
-    s = s3;
-    let d = register_of(a3);
-    r = lower_materializing(
-        nodes,
-        list,
-        names,
-        code,
-        constants,
-        marks,
-        arity,
-        s,
-        callee,
-        Dest::Any,
-    );
-    let a4 = r.answer;
-    if is_refused(a4) {
-        return r;
-    }
-    let s4 = r.state;
-    s = s4;
-    let src = register_of(a4);
-    let to = reg_of(d);
-    let from = reg_of(src);
-    finish(
-        code,
-        s,
-        Instruction::Call {
-            dest: to,
-            src: from,
-            arity: count,
-        },
-        d,
-        src,
-    )
+    answered(s, 0)
 }
 
-// CreateMap, then entry by entry. The registers of the entries stay held.
+// Property: destination, object, key pooled. Gives back what the object held.
+fn lower_property(
+    nodes: &[u8],
+    list: &[u8],
+    names: &[u8],
+    code: &mut [u8],
+    constants: &mut [u8],
+    marks: &mut [u8],
+    state: State,
+    node: u32,
+    dest: u32,
+) -> Lowered
+    requires { ⌜ (ReadyTo (now nodes) (now list) (now names) node dest) × (wordOf (now nodes) node 0 ≡ propertyKind) ⌝ }
+    ensures { λ r. ⌜ Lowers (λ t. operandAt (nodeAt (t .nodes) node)) (λ t. lowerExpression freeTemp t node (destOf dest)) (now (nodes .entry)) (now (list .entry)) (now (names .entry))
+        (now (code .entry)) (now (constants .entry)) (now (marks .entry)) (now (code .exit)) (now (constants .exit)) (now (marks .exit)) state r ⌝ }
+{
+    let object = node_word(nodes, node, 1);
+    let property = node_word(nodes, node, 2);
+    let t = destination(state, dest);
+    if is_refusal(t.answer) {
+        return t;
+    }
+    let d = value_of(t.answer);
+    let s1 = t.state;
+    let f1 = peek(nodes, names, code, constants, s1, object, REGISTER);
+    let r1 = lower_materializing(nodes, list, names, code, constants, marks, s1, f1, ANY);
+    if is_refusal(r1.answer) {
+        return r1;
+    }
+    let src = value_of(r1.answer);
+    let mut s = r1.state;
+    let k = store_constant(constants, s.constants, Operand::String(property));
+    if k == FULL {
+        return refused(s, Refusal::Constants, 0);
+    }
+    s.constants = counted(s.constants, k);
+    let n = emit_instruction(
+        code,
+        s.instructions,
+        opcode::GET_PROPERTY_K,
+        reg_of(d),
+        reg_of(src),
+        k,
+    );
+    if n == FULL {
+        return refused(s, Refusal::Code, 0);
+    }
+    s.instructions = counted(s.instructions, n);
+    let held = s.registers;
+    let held1 = held.give_back(src);
+    s.registers = held1;
+    answered(s, d)
+}
+
+// Map: CreateMap, then entry by entry. What the entries hold stays held.
 fn lower_map(
     nodes: &[u8],
     list: &[u8],
@@ -949,186 +670,177 @@ fn lower_map(
     code: &mut [u8],
     constants: &mut [u8],
     marks: &mut [u8],
-    arity: u32,
     state: State,
     node: u32,
-    first: u32,
-    count: u32,
-    dest: Dest,
+    dest: u32,
 ) -> Lowered
-    requires { ⌜ (Ready (now nodes) (now list) (now names) arity) × Below (treeOf (now nodes) (now list) (now names)) node (Node.Map first count) ⌝ }
-    ensures { λ r. ⌜ answered Answer.Operand (arm (treeOf (now (nodes .entry)) (now (list .entry)) (now (names .entry))) node (Node.Map first count) dest
-        (made (words (now (code .entry))) (words (now (constants .entry))) (words (now (marks .entry))) state))
-        ≡ seen (made (words (now (code .exit))) (words (now (constants .exit))) (words (now (marks .exit))) (r .state)) (r .answer) ⌝ }
+    requires { ⌜ (ReadyTo (now nodes) (now list) (now names) node dest) × (wordOf (now nodes) node 0 ≡ mapKind) ⌝ }
+    ensures { λ r. ⌜ Lowers (λ t. operandAt (nodeAt (t .nodes) node)) (λ t. lowerExpression freeTemp t node (destOf dest)) (now (nodes .entry)) (now (list .entry)) (now (names .entry))
+        (now (code .entry)) (now (constants .entry)) (now (marks .entry)) (now (code .exit)) (now (constants .exit)) (now (marks .exit)) state r ⌝ }
 {
-    let mut s = state;
-    let mut r = destination(s, dest);
-    let a1 = r.answer;
-    if is_refused(a1) {
-        return r;
+    let first = node_word(nodes, node, 1) as usize;
+    let count = node_word(nodes, node, 2);
+    let t = destination(state, dest);
+    if is_refusal(t.answer) {
+        return t;
     }
-    let s1 = r.state;
-    s = s1;
-    let d = register_of(a1);
-    let to = reg_of(d);
-    r = emit(code, s, Instruction::CreateMap { dest: to });
-    let a2 = r.answer;
-    if is_refused(a2) {
-        return r;
+    let d = value_of(t.answer);
+    let mut s = t.state;
+    let n = emit_instruction(code, s.instructions, opcode::CREATE_MAP, reg_of(d), 0, 0);
+    if n == FULL {
+        return refused(s, Refusal::Code, 0);
     }
-    let s2 = r.state;
-    s = s2;
+    s.instructions = counted(s.instructions, n);
     let mut i: u32 = 0;
     while i < count {
-        let at = (first as usize) + 2 * (i as usize);
+        let at = first + 2 * (i as usize);
         let key = word(list, at);
         let value = word(list, at + 1);
-        let entry = set_entry(
+        let u = s;
+        let r = lower_entry(
             nodes,
             list,
             names,
             code,
             constants,
             marks,
-            arity,
-            s,
+            u,
             node,
             d,
             key,
             value,
         );
-        let a3 = entry.answer;
-        if is_refused(a3) {
-            return entry;
+        if is_refusal(r.answer) {
+            return r;
         }
-        let s3 = entry.state;
-        s = s3;
+        let s1 = r.state;
+        s = s1;
         i += 1;
     }
-    let answer = Answer::Operand(Operand::Register(d));
-    Lowered { state: s, answer }
+    answered(s, d)
 }
 
-// One entry. A name key is not looked up if it has a value, and is pooled after it; any other key is lowered before its value.
-fn set_entry(
+// One entry. A name key is not looked up if it has a value, and is pooled after the value is lowered; any other key is lowered before its value.
+fn lower_entry(
     nodes: &[u8],
     list: &[u8],
     names: &[u8],
     code: &mut [u8],
     constants: &mut [u8],
     marks: &mut [u8],
-    arity: u32,
     state: State,
     node: u32,
-    d: Register,
+    d: u32,
     key: u32,
     value: u32,
 ) -> Lowered
-    requires { ⌜ (Ready (now nodes) (now list) (now names) arity) × EntryBelow node key value ⌝ }
-    ensures { λ r. ⌜ answered Answer.Place (lowerEntry (treeOf (now (nodes .entry)) (now (list .entry)) (now (names .entry))) (lowerExpression freeTemp (treeOf (now (nodes .entry)) (now (list .entry)) (now (names .entry)))) d key value (nameOf (nodeAt (words (now (nodes .entry))) key))
-        (made (words (now (code .entry))) (words (now (constants .entry))) (words (now (marks .entry))) state))
-        ≡ seen (made (words (now (code .exit))) (words (now (constants .exit))) (words (now (marks .exit))) (r .state)) (r .answer) ⌝ }
+    requires { ⌜ (Ready (now nodes) (now list) (now names) node) × EntryBelow node key value ⌝ }
+    ensures { λ r. ⌜ Lowers (λ t. placeAt) (λ t. lowerEntry t (lowerExpression freeTemp t) (registerAt d) key value (nameOf (nodeAt (t .nodes) key))) (now (nodes .entry)) (now (list .entry)) (now (names .entry))
+        (now (code .entry)) (now (constants .entry)) (now (marks .entry)) (now (code .exit)) (now (constants .exit)) (now (marks .exit)) state r ⌝ }
 {
-    let mut s = state;
-    let mut r = Lowered {
-        state,
-        answer: Answer::Place(0),
-    };
-    let kind = node_at(nodes, key);
-    let name = name_of(kind);
-    match name {
-        Named::By(symbol) => {
-            if value == ABSENT {
-                r = lower_materializing(
-                    nodes,
-                    list,
-                    names,
-                    code,
-                    constants,
-                    marks,
-                    arity,
-                    s,
-                    key,
-                    Dest::Any,
-                );
-                let a1 = r.answer;
-                if is_refused(a1) {
-                    return r;
-                }
-                let s1 = r.state;
-                let src = operand_of(a1);
-                return set_named(code, constants, s1, d, symbol, src);
-            }
-            r = lower_expression(
-                nodes,
-                list,
-                names,
-                code,
-                constants,
-                marks,
-                arity,
-                s,
-                value,
-                Dest::Any,
-            );
-            let a2 = r.answer;
-            if is_refused(a2) {
-                return r;
-            }
-            let s2 = r.state;
-            s = s2;
-            let src = operand_of(a2);
-            set_named(code, constants, s, d, symbol, src)
+    let kind = node_word(nodes, key, 0);
+    if kind == kind::IDENTIFIER {
+        let child = value_or_key(key, value);
+        let f1 = peek(nodes, names, code, constants, state, child, OPERAND);
+        let r1 = lower_materializing(nodes, list, names, code, constants, marks, state, f1, ANY);
+        if is_refusal(r1.answer) {
+            return r1;
         }
-        Named::Nothing => {
-            if value == ABSENT {
-                let answer = error_at(nodes, Refusal::Key, key);
-                return Lowered { state, answer };
-            }
-            r = lower_expression(
-                nodes,
-                list,
-                names,
-                code,
-                constants,
-                marks,
-                arity,
-                s,
-                key,
-                Dest::Any,
-            );
-            let a3 = r.answer;
-            if is_refused(a3) {
-                return r;
-            }
-            let s3 = r.state;
-            s = s3;
-            let k = operand_of(a3);
-            r = lower_expression(
-                nodes,
-                list,
-                names,
-                code,
-                constants,
-                marks,
-                arity,
-                s,
-                value,
-                Dest::Any,
-            );
-            let a4 = r.answer;
-            if is_refused(a4) {
-                return r;
-            }
-            let s4 = r.state;
-            s = s4;
-            let v = operand_of(a4);
-            set_keyed(code, constants, s, d, k, v)
-        }
+        let s1 = r1.state;
+        let src = value_of(r1.answer);
+        return set_property(nodes, code, constants, s1, d, key, child, LITERAL, src);
     }
+    if value == ABSENT {
+        return refused(state, Refusal::Key, key);
+    }
+    let f2 = peek(nodes, names, code, constants, state, key, OPERAND);
+    let r2 = lower_materializing(nodes, list, names, code, constants, marks, state, f2, ANY);
+    if is_refusal(r2.answer) {
+        return r2;
+    }
+    let src1 = value_of(r2.answer);
+    let s2 = r2.state;
+    let f3 = peek(nodes, names, code, constants, s2, value, OPERAND);
+    let r3 = lower_materializing(nodes, list, names, code, constants, marks, s2, f3, ANY);
+    if is_refusal(r3.answer) {
+        return r3;
+    }
+    let src2 = value_of(r3.answer);
+    let s3 = r3.state;
+    set_property(nodes, code, constants, s3, d, key, value, src1, src2)
 }
 
-// A node as a condition: the place of the jump that is taken where it is false.
+// The node whose value an entry gets: its value, or the name that is its key.
+fn value_or_key(key: u32, value: u32) -> u32
+    ensures { λ r. ⌜ r ≡ cond (eqb value absent) key value ⌝ }
+{
+    if value == ABSENT { key } else { value }
+}
+
+// A key that is pooled: a literal, or the name itself as a string.
+fn key_operand(nodes: &[u8], key: u32) -> Operand
+    requires { ⌜ InArena (now nodes) key ⌝ }
+    ensures { λ r. ⌜ r ≡ keyOperand (nodeAt (words (now (nodes .entry))) key) ⌝ }
+{
+    if node_word(nodes, key, 0) == kind::IDENTIFIER {
+        return Operand::String(node_word(nodes, key, 1));
+    }
+    literal(nodes, key)
+}
+
+fn set_opcode(src1: u32, src2: u32) -> u32
+    ensures { λ r. ⌜ r ≡ setOpcode src1 src2 ⌝ }
+{
+    if src1 == LITERAL {
+        if src2 == LITERAL {
+            return opcode::SET_PROPERTY_KK;
+        }
+        return opcode::SET_PROPERTY_KR;
+    }
+    if src2 == LITERAL {
+        return opcode::SET_PROPERTY_RK;
+    }
+    opcode::SET_PROPERTY
+}
+
+// The end of an entry: "Literals left over are pooled last, key before value."
+fn set_property(
+    nodes: &[u8],
+    code: &mut [u8],
+    constants: &mut [u8],
+    state: State,
+    d: u32,
+    key: u32,
+    value: u32,
+    src1: u32,
+    src2: u32,
+) -> Lowered
+    requires { ⌜ InArena (now nodes) key × InArena (now nodes) value ⌝ }
+    ensures { λ r. ⌜ ((t : Tree) (E : ℕ → Dest → Walk Operand) (m : List ℕ) → settled (storeKeyed t E (registerAt d) (sourceAt (keyOperand (nodeAt (words (now (nodes .entry))) key)) src1) (sourceAt (literal (nodeAt (words (now (nodes .entry))) value)) src2)
+        (made (words (now (code .entry))) (words (now (constants .entry))) m state))
+        ≡ seen t placeAt (made (words (now (code .exit))) (words (now (constants .exit))) m (r .state)) (r .answer)) ⌝ }
+{
+    let mut s = state;
+    let first = field_of(constants, s.constants, src1, key_operand(nodes, key));
+    if first == FULL {
+        return refused(s, Refusal::Constants, 0);
+    }
+    s.constants = pooled_by(s.constants, src1, first);
+    let second = field_of(constants, s.constants, src2, literal(nodes, value));
+    if second == FULL {
+        return refused(s, Refusal::Constants, 0);
+    }
+    s.constants = pooled_by(s.constants, src2, second);
+    let opcode = set_opcode(src1, src2);
+    let n = emit_instruction(code, s.instructions, opcode, reg_of(d), first, second);
+    if n == FULL {
+        return refused(s, Refusal::Code, 0);
+    }
+    s.instructions = counted(s.instructions, n);
+    answered(s, n)
+}
+
+// A node as a condition: the place of the jump that is taken where it is false. What it holds stays held.
 fn lower_jump_if_false(
     nodes: &[u8],
     list: &[u8],
@@ -1136,151 +848,149 @@ fn lower_jump_if_false(
     code: &mut [u8],
     constants: &mut [u8],
     marks: &mut [u8],
-    arity: u32,
     state: State,
     node: u32,
 ) -> Lowered
-    requires { ⌜ Ready (now nodes) (now list) (now names) arity ⌝ }
-    ensures { λ r. ⌜ answered Answer.Place (lowerJumpIfFalse freeTemp (treeOf (now (nodes .entry)) (now (list .entry)) (now (names .entry))) node
-        (made (words (now (code .entry))) (words (now (constants .entry))) (words (now (marks .entry))) state))
-        ≡ seen (made (words (now (code .exit))) (words (now (constants .exit))) (words (now (marks .exit))) (r .state)) (r .answer) ⌝ }
+    requires { ⌜ Ready (now nodes) (now list) (now names) node ⌝ }
+    ensures { λ r. ⌜ Lowers (λ t. placeAt) (λ t. lowerJumpIfFalse freeTemp t node) (now (nodes .entry)) (now (list .entry)) (now (names .entry))
+        (now (code .entry)) (now (constants .entry)) (now (marks .entry)) (now (code .exit)) (now (constants .exit)) (now (marks .exit)) state r ⌝ }
 {
-    let kind = node_at(nodes, node);
-    let condition = condition_of(kind);
-    match condition {
-        Condition::Compared {
-            comparison,
-            left,
-            right,
-        } => lower_fused(
-            nodes,
-            list,
-            names,
-            code,
-            constants,
-            marks,
-            arity,
-            state,
-            node,
-            false,
-            comparison,
-            left,
-            right,
-        ),
-        Condition::Tested => {
-            let mut r = lower_materializing(
-                nodes,
-                list,
-                names,
-                code,
-                constants,
-                marks,
-                arity,
-                state,
-                node,
-                Dest::Any,
-            );
-            let a1 = r.answer;
-            if is_refused(a1) {
-                return r;
-            }
-            let s1 = r.state;
-            let src = register_of(a1);
-            emit_test(code, s1, false, src)
+    let f = peek_jump(nodes, names, code, constants, state, node, false);
+    let answer = f.answer;
+    if is_inner(answer) {
+        let t = state;
+        if is_compared(nodes, node) {
+            return lower_fused(nodes, list, names, code, constants, marks, t, node, false);
         }
+        return lower_tested(nodes, list, names, code, constants, marks, t, node, false);
     }
+    f
 }
 
-// Left, right, constants pooled, one fused jump; two literals are tested like anything else.
-pub(crate) fn lower_fused(
+// A root as a condition: `lower_jump_if_false` and `lower_jump_if_true`, by the outcome at which the jump is taken.
+pub(crate) fn lower_jump_if(
     nodes: &[u8],
     list: &[u8],
     names: &[u8],
     code: &mut [u8],
     constants: &mut [u8],
     marks: &mut [u8],
-    arity: u32,
     state: State,
     node: u32,
     sense: bool,
-    comparison: Comparison,
-    left: u32,
-    right: u32,
 ) -> Lowered
-    requires { ⌜ (Ready (now nodes) (now list) (now names) arity) × (left < node) × (right < node) ⌝ }
-    ensures { λ r. ⌜ answered Answer.Place (fused (treeOf (now (nodes .entry)) (now (list .entry)) (now (names .entry))) (lowerExpression freeTemp (treeOf (now (nodes .entry)) (now (list .entry)) (now (names .entry)))) sense (lowerExpression freeTemp (treeOf (now (nodes .entry)) (now (list .entry)) (now (names .entry))) node) (some comparison) left right
-        (made (words (now (code .entry))) (words (now (constants .entry))) (words (now (marks .entry))) state))
-        ≡ seen (made (words (now (code .exit))) (words (now (constants .exit))) (words (now (marks .exit))) (r .state)) (r .answer) ⌝ }
+    requires { ⌜ Ready (now nodes) (now list) (now names) node ⌝ }
+    ensures { λ r. ⌜ Lowers (λ t. placeAt) (λ t. jumpNode t (lowerExpression freeTemp t) sense (lowerExpression freeTemp t node) (nodeAt (t .nodes) node)) (now (nodes .entry)) (now (list .entry)) (now (names .entry))
+        (now (code .entry)) (now (constants .entry)) (now (marks .entry)) (now (code .exit)) (now (constants .exit)) (now (marks .exit)) state r ⌝ }
 {
-    let mut s = state;
-    let mut r = lower_expression(
+    if is_compared(nodes, node) {
+        return lower_fused(
+            nodes,
+            list,
+            names,
+            code,
+            constants,
+            marks,
+            state,
+            node,
+            sense,
+        );
+    }
+    lower_tested(
         nodes,
         list,
         names,
         code,
         constants,
         marks,
-        arity,
-        s,
-        left,
-        Dest::Any,
-    );
-    let a1 = r.answer;
-    if is_refused(a1) {
-        return r;
-    }
-    let s1 = r.state;
-    s = s1;
-    let x = operand_of(a1);
-    r = lower_expression(
-        nodes,
-        list,
-        names,
-        code,
-        constants,
-        marks,
-        arity,
-        s,
-        right,
-        Dest::Any,
-    );
-    let a2 = r.answer;
-    if is_refused(a2) {
-        return r;
-    }
-    let s2 = r.state;
-    s = s2;
-    let y = operand_of(a2);
-    if is_register(x) {
-        let src1 = held_by(x);
-        if is_register(y) {
-            let src2 = held_by(y);
-            return lower_fused_rr(code, s, sense, comparison, src1, src2);
-        }
-        return lower_fused_rk(code, constants, s, sense, comparison, src1, y);
-    }
-    if is_register(y) {
-        let src2 = held_by(y);
-        return lower_fused_kr(code, constants, s, sense, comparison, x, src2);
-    }
-    r = lower_materializing(
-        nodes,
-        list,
-        names,
-        code,
-        constants,
-        marks,
-        arity,
-        s,
+        state,
         node,
-        Dest::Any,
-    );
-    let a3 = r.answer;
-    if is_refused(a3) {
+        sense,
+    )
+}
+
+// Whether a condition is a comparison, whose jump is fused.
+fn is_compared(nodes: &[u8], node: u32) -> bool
+    requires { ⌜ InArena (now nodes) node ⌝ }
+    ensures { λ r. ⌜ r ≡ isCompared (nodeAt (words (now (nodes .entry))) node) ⌝ }
+{
+    if node_word(nodes, node, 0) == kind::BINARY {
+        return is_comparison(node_word(nodes, node, 1));
+    }
+    false
+}
+
+// A node in a register, then JumpIfFalse or JumpIfTrue. Its place is the answer.
+fn lower_tested(
+    nodes: &[u8],
+    list: &[u8],
+    names: &[u8],
+    code: &mut [u8],
+    constants: &mut [u8],
+    marks: &mut [u8],
+    state: State,
+    node: u32,
+    sense: bool,
+) -> Lowered
+    requires { ⌜ Ready (now nodes) (now list) (now names) node ⌝ }
+    ensures { λ r. ⌜ Lowers (λ t. placeAt) (λ t. tested t (lowerExpression freeTemp t) sense (lowerExpression freeTemp t node)) (now (nodes .entry)) (now (list .entry)) (now (names .entry))
+        (now (code .entry)) (now (constants .entry)) (now (marks .entry)) (now (code .exit)) (now (constants .exit)) (now (marks .exit)) state r ⌝ }
+{
+    let t = state;
+    let r = if node_word(nodes, node, 0) < kind::IDENTIFIER {
+        load_constant(code, constants, t, literal(nodes, node), ANY)
+    } else {
+        lower_expression(nodes, list, names, code, constants, marks, t, node, ANY)
+    };
+    if is_refusal(r.answer) {
         return r;
     }
-    let s3 = r.state;
-    s = s3;
-    let src = register_of(a3);
-    emit_test(code, s, sense, src)
+    let src = value_of(r.answer);
+    let mut s = r.state;
+    let n = emit_instruction(code, s.instructions, jump_if(sense), reg_of(src), 0, 0);
+    if n == FULL {
+        return refused(s, Refusal::Code, 0);
+    }
+    s.instructions = counted(s.instructions, n);
+    answered(s, n)
+}
+
+// Left, right, constants pooled, one fused jump; two literals are tested like anything else. No destination is taken, nothing is given back.
+fn lower_fused(
+    nodes: &[u8],
+    list: &[u8],
+    names: &[u8],
+    code: &mut [u8],
+    constants: &mut [u8],
+    marks: &mut [u8],
+    state: State,
+    node: u32,
+    sense: bool,
+) -> Lowered
+    requires { ⌜ (Ready (now nodes) (now list) (now names) node) × (isCompared (nodeAt (words (now nodes)) node) ≡ true) ⌝ }
+    ensures { λ r. ⌜ Lowers (λ t. placeAt) (λ t. jumpNode t (lowerExpression freeTemp t) sense (lowerExpression freeTemp t node) (nodeAt (t .nodes) node)) (now (nodes .entry)) (now (list .entry)) (now (names .entry))
+        (now (code .entry)) (now (constants .entry)) (now (marks .entry)) (now (code .exit)) (now (constants .exit)) (now (marks .exit)) state r ⌝ }
+{
+    let left = node_word(nodes, node, 2);
+    let right = node_word(nodes, node, 3);
+    let s0 = state;
+    let f1 = peek(nodes, names, code, constants, s0, left, OPERAND);
+    let r1 = lower_materializing(nodes, list, names, code, constants, marks, s0, f1, ANY);
+    if is_refusal(r1.answer) {
+        return r1;
+    }
+    let src1 = value_of(r1.answer);
+    let s1 = r1.state;
+    let f2 = peek(nodes, names, code, constants, s1, right, OPERAND);
+    let r2 = lower_materializing(nodes, list, names, code, constants, marks, s1, f2, ANY);
+    if is_refusal(r2.answer) {
+        return r2;
+    }
+    let src2 = value_of(r2.answer);
+    let s = r2.state;
+    if (src1 == LITERAL) & (src2 == LITERAL) {
+        let u = s;
+        return lower_tested(nodes, list, names, code, constants, marks, u, node, sense);
+    }
+    fused_jump(nodes, code, constants, s, node, sense, src1, src2)
 }

@@ -1,42 +1,40 @@
 -- `codegen::patched` meets its contract. Assumes nothing.
 use mathlib.Core.Path.{refl}
+use native.Mathlib.Omega.{arith}
+use borrow.Author.Needs.{needs}
 use Rattle.lowering.specs.Steps.{patchArguments}
 use Rattle.codegen.proofs.Laws.{patched-done, patched-refused}
-use borrow.Author.Needs.{needs}
 use Rattle.codegen.proofs.patched.Statement.{statement}
 use Rattle.codegen.proofs.patched.Tie as tie
 
-patch-arguments-requires : tie.Need-patch-arguments-requires
-patch-arguments-requires c κs = search needs
-
-enum-told : tie.Need-enum-told
-enum-told c = search needs
-
-enum-known-done : tie.Need-enum-known-done
-enum-known-done c = search needs
-
-same-length : tie.Need-same-length
-same-length c = search needs
-
 returns : tie.Need-returns
 unfolding patchArguments
-returns c = ((λ p. patched-done _ _ _ _ (c .before .before .before .before .patch-arguments .ensures .0 _ _ refl) (c .enum-told .given .1)), c .before .before .before .before .patch-arguments .ensures .1)
-
-same-length-2 : tie.Need-same-length-2
-same-length-2 c = search needs
+returns c =
+    let at-enum-told = c .before in
+    let at-patch-arguments = at-enum-told .before .before .before .before in (
+      (λ t p. rw (c .answered .ensures .0, c .answered .ensures .1) (patched-done t _ _ _ _ _ (at-patch-arguments .patch-arguments .ensures .0 p _ refl) (at-enum-told .enum-told .given .1) (omega arith))),
+      at-patch-arguments .patch-arguments .ensures .1,
+    )
 
 returns-2 : tie.Need-returns-2
 unfolding patchArguments
-returns-2 c = ((λ p. patched-refused _ _ _ _ (c .before .before .before .before .before .patch-arguments .ensures .0 _ _ refl) (c .before .done .given .1)), c .before .before .before .before .before .patch-arguments .ensures .1)
+returns-2 c =
+    let at-done = c .before .before in
+    let at-patch-arguments = at-done .before .before .before .before in (
+      (λ t p. rw (c .refused .ensures .0, c .refused .ensures .1) (patched-refused t _ _ _ _ _ (at-patch-arguments .patch-arguments .ensures .0 p _ refl) (at-done .done .given .1) (omega arith))),
+      at-patch-arguments .patch-arguments .ensures .1,
+    )
 
 pub patched-spec : {M : Type 1} → statement M
 patched-spec =
     tie.close
     (tie.spec
-    patch-arguments-requires
-    enum-told
-    enum-known-done
-    same-length
+    (λ c κs. search needs)
+    (λ c. search needs)
+    (λ c κs. search needs)
+    (λ c. search needs)
+    (λ c κs. search needs)
+    (λ c. search needs)
     returns
-    same-length-2
+    (λ c. search needs)
     returns-2)

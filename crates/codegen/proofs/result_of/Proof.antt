@@ -1,34 +1,42 @@
 -- `codegen::result_of` meets its contract. Assumes nothing.
-use Rattle.codegen.specs.Numbers.{resultOf}
+use mathlib.Core.Path.{_∙_, sym, ap}
 use borrow.Author.Needs.{needs}
+use Rattle.diagnostics.specs.Refusal.{refusalNumber}
+use Rattle.steps.specs.Answers.{refusalOf}
+use Rattle.codegen.proofs.Laws.{result-refused, result-placed}
 use Rattle.codegen.proofs.result_of.Statement.{statement}
 use Rattle.codegen.proofs.result_of.Tie as tie
 
-enum-told : tie.Need-enum-told
-enum-told c = search needs
-
-enum-known-a : tie.Need-enum-known-a
-enum-known-a c = search needs
-
-enum-known-a-2 : tie.Need-enum-known-a-2
-enum-known-a-2 c = search needs
-
-number-requires : tie.Need-number-requires
-number-requires c κs = search needs
-
 returns : tie.Need-returns
-unfolding resultOf
-returns c = rw (c .enum-told .given .1)
+returns c =
+    let at-span-word = c .before in
+    let at-refusal-number = at-span-word .before in
+    let at-number-of = at-refusal-number .before in
+    let at-if1 = at-number-of .before in
+    let at-is-refusal = at-if1 .before in
+    let at-value-of = at-is-refusal .before in
+    λ list names k p m.
+    result-refused _ _ _ _ (sym (at-is-refusal .is-refusal .ensures) ∙ at-if1 .if1 .taken)
+    (at-refusal-number .refusal-number .ensures ∙ ap (λ n. refusalNumber (refusalOf n)) (at-number-of .number-of .ensures))
+    (at-value-of .value-of .ensures)
+    (rw (at-number-of .number-of .ensures, at-value-of .value-of .ensures) at (at-span-word .span-word .ensures))
+    (rw (at-number-of .number-of .ensures, at-value-of .value-of .ensures) at (c .span-word2 .ensures))
 
 returns-2 : tie.Need-returns-2
-unfolding resultOf
-returns-2 c = rw (c .before .a .given .1)
-
-returns-3 : tie.Need-returns-3
-unfolding resultOf
-returns-3 c = rw (c .before .before .a2 .given .1, c .number .ensures)
+returns-2 c =
+    let at-is-refusal = c .before in
+    let at-value-of = at-is-refusal .before in
+    λ list names k p m. result-placed _ _ _ _ (sym (at-is-refusal .is-refusal .ensures) ∙ c .if1 .left) (at-value-of .value-of .ensures)
 
 pub result-of-spec : {M : Type 1} → statement M
 result-of-spec =
     tie.close
-    (tie.spec enum-told enum-known-a enum-known-a-2 number-requires returns returns-2 returns-3)
+    (tie.spec
+    (λ c κs. search needs)
+    (λ c κs. search needs)
+    (λ c κs. search needs)
+    (λ c κs. search needs)
+    (λ c κs. search needs)
+    (λ c κs. search needs)
+    returns
+    returns-2)

@@ -1,0 +1,36 @@
+-- `codegen::flat::fused_jump` meets its contract: the literal of one of the two sources is each one's. Assumes nothing.
+use borrow.Author.Needs.{needs}
+use Rattle.lowering.specs.Tree.{treeOf}
+use Rattle.codegen.proofs.Peek.{operands-inside, first-source, second-source}
+use Rattle.codegen.proofs.flat.fused_jump.Statement.{statement}
+use Rattle.codegen.proofs.flat.fused_jump.Tie as tie
+
+literal-of-requires : tie.Need-literal-of-requires
+literal-of-requires c κs =
+    let at-left = c .before in
+    operands-inside _ _ (at-left .before .before .before .before .before .pre) (at-left .node-word2 .ensures) (c .node-word3 .ensures)
+
+returns : tie.Need-returns
+returns c =
+    let at-sources = c .before .before .before .before in
+    let at-literal = at-sources .before .before .before in
+    let at-right = at-literal .before in
+    let at-left = at-right .before in
+    let at-operator = at-left .before in
+    let a = at-operator .before .before .before .before .args in
+    λ list names E own comparison m not-both compared.
+    rw (at-literal .literal-of .ensures, first-source, second-source, at-right .node-word3 .ensures, at-left .node-word2 .ensures) at
+    (at-sources .fused-sources .ensures .0 (treeOf (a .nodes .now) list names) E own comparison (a .state .registers) (a .state .marks) m not-both (rw (at-operator .node-word .ensures) compared))
+
+pub fused-jump-spec : {M : Type 1} → statement M
+fused-jump-spec =
+    tie.close
+    (tie.spec
+    (λ c κs. search needs)
+    (λ c κs. search needs)
+    (λ c κs. search needs)
+    literal-of-requires
+    (λ c κs. search needs)
+    (λ c. search needs)
+    (λ c. search needs)
+    returns)

@@ -1,0 +1,233 @@
+-- The needs of `lower_map`.
+use Prim.Native.Nat.{ℕ, _-_, _≤_}
+use native.Mathlib.Omega.{arith}
+use native.Mathlib.Nat.{sub-zero}
+use lib.ListN.{length}
+use mathlib.Core.Path.{_≡_, refl, sym, _∙_}
+use borrow.Author.Needs.{needs}
+use Rattle.diagnostics.specs.declared.Refusal.{Refusal}
+use Rattle.words.specs.Words.{words}
+use Rattle.runtime.specs.Instruction.{wordsOf}
+use Rattle.lowering.specs.Tree.{treeOf}
+use Rattle.lowering.specs.Walk.{made}
+use Rattle.lowering.specs.Steps.{freeTemp}
+use Rattle.lowering.specs.Lower.{lowerEntries, lowerNode, lowerExpression}
+use Rattle.steps.specs.Answers.{registerAt, operandAt, settled}
+use Rattle.steps.proofs.Chains.{then-by, stop-by, then-done, then-emitted, stop-emitted}
+use Rattle.steps.proofs.Words.{register-value}
+use Rattle.codegen.specs.Kinds.{mapKind}
+use Rattle.codegen.proofs.Walk.{below-of, expression-of, ended}
+use Rattle.codegen.proofs.Entries.{entries-none, entries-again, entries-stop}
+use Rattle.codegen.proofs.lower_expression.lower_entry.Reads as lower-entry
+use Rattle.codegen.proofs.lower_expression.lower_map.Reads as lower-map
+use Rattle.codegen.proofs.lower_expression.+lower_arguments+lower_binary+lower_block+lower_call+lower_entry+lower_expression+lower_fused+lower_if+lower_jump_if_false+lower_logical+lower_map+lower_materializing+lower_property+lower_tested+lower_unary.Lts-lower_map as lower-map-lts
+use Rattle.codegen.proofs.read.node_word.Reads as node-word-reads
+use Rattle.runtime.proofs.function.emit_instruction.Reads as emit-instruction-reads
+use Rattle.steps.proofs.answer.answered.Reads as answered-reads
+use Rattle.steps.proofs.answer.is_refusal.Reads as is-refusal-reads
+use Rattle.steps.proofs.answer.refused.Reads as refused-reads
+use Rattle.steps.proofs.answer.reg_of.Reads as reg-of-reads
+use Rattle.steps.proofs.answer.value_of.Reads as value-of-reads
+use Rattle.steps.proofs.step.destination.Reads as destination-reads
+use Rattle.words.proofs.counted.Reads as counted-reads
+use Rattle.words.proofs.word.Reads as word-reads
+use Rattle.codegen.proofs.lower_expression.+lower_arguments+lower_binary+lower_block+lower_call+lower_entry+lower_expression+lower_fused+lower_if+lower_jump_if_false+lower_logical+lower_map+lower_materializing+lower_property+lower_tested+lower_unary.Proof.Measures.{lower-entry-below, lower-map-at}
+
+abbrev pub calls : ℕ → lower-map-lts.Claims
+calls t = (
+  node-word-reads.Asked,
+  node-word-reads.Learnt,
+  destination-reads.Asked,
+  destination-reads.Learnt,
+  is-refusal-reads.Asked,
+  is-refusal-reads.Learnt,
+  value-of-reads.Asked,
+  value-of-reads.Learnt,
+  reg-of-reads.Asked,
+  reg-of-reads.Learnt,
+  emit-instruction-reads.Asked,
+  emit-instruction-reads.Learnt,
+  refused-reads.Asked,
+  refused-reads.Learnt,
+  counted-reads.Asked,
+  counted-reads.Learnt,
+  word-reads.Asked,
+  word-reads.Learnt,
+  lower-entry-below t,
+  lower-entry.Post,
+  answered-reads.Asked,
+  answered-reads.Learnt,
+)
+
+-- what the entries from i on give is what all of them give
+abbrev Inv-loop : lower-map-lts.InvT-loop
+Inv-loop nodes list names code₀ constants₀ marks₀ node dest first count d s₀ n i₀ code constants marks s i =
+    (i ≤ count) × (length code ≡ length code₀) × (length constants ≡ length constants₀) × (length marks ≡ length marks₀)
+    × (lowerEntries (treeOf nodes list names) (lowerExpression freeTemp (treeOf nodes list names)) (registerAt d) first count 0 (made (words code₀) (words constants₀) (words marks₀) s₀)
+    ≡ lowerEntries (treeOf nodes list names) (lowerExpression freeTemp (treeOf nodes list names)) (registerAt d) first (count - i) i (made (words code) (words constants) (words marks) s))
+
+abbrev μ-loop : lower-map-lts.MeasureT-loop
+μ-loop nodes list names code₀ constants₀ marks₀ node dest first count d s₀ n i₀ code constants marks s i = count - i
+
+node-word-requires : (t : ℕ) → lower-map-lts.Need-node-word-requires (calls t) (lower-map-at t) lower-map.Post Inv-loop μ-loop
+node-word-requires t c κs = (c .before .before .before .before .before .before .pre .1 .0 .0 .1 .1, omega arith)
+
+node-word-requires-2 : (t : ℕ) → lower-map-lts.Need-node-word-requires-2 (calls t) (lower-map-at t) lower-map.Post Inv-loop μ-loop
+node-word-requires-2 t c κs = (c .before .before .before .before .before .before .before .pre .1 .0 .0 .1 .1, omega arith)
+
+returns : (t : ℕ) → lower-map-lts.Need-returns (calls t) (lower-map-at t) lower-map.Post Inv-loop μ-loop
+unfolding lowerNode
+returns t c =
+    let at-read = c .before .before .before .before in
+    let start = at-read .before .before .before .before .before .before .before in
+    expression-of (start .pre .1 .0 .0 .0) _ mapKind (start .pre .1 .1) _ _
+    (stop-by _ _ registerAt _ _ _ (c .before .before .destination .ensures .0 _ _ _ _) (operandAt _) (c .before .is-refusal .ensures) (c .if1 .taken))
+
+returns-2 : (t : ℕ) → lower-map-lts.Need-returns-2 (calls t) (lower-map-at t) lower-map.Post Inv-loop μ-loop
+unfolding lowerNode wordsOf
+returns-2 t c =
+    let at-emitted = c .before .before .before .before in
+    let at-value = at-emitted .before .before .before .before in
+    let at-refusal = at-value .before .before in
+    let at-read = at-refusal .before .before .before in
+    let start = at-read .before .before .before .before .before .before .before in
+    let tree = treeOf (start .args .nodes .now) (start .args .list .now) (start .args .names .now) in
+    let left = rw (at-emitted .before .reg-of .ensures) at (at-emitted .emit-instruction .ensures .0) in
+    rw (c .refused .ensures .0, c .refused .ensures .1)
+    (expression-of (start .pre .1 .0 .0 .0) _ mapKind (start .pre .1 .1) _ _
+    (then-by tree _ registerAt _ _ _ (at-refusal .before .destination .ensures .0 tree _ _ _) (at-refusal .is-refusal .ensures) (at-value .before .if1 .left) (at-value .value-of .ensures)
+    (stop-emitted _ _ _ _ _ refl left (operandAt _) (c .before .if2 .taken))))
+
+loop-holds : (t : ℕ) → lower-map-lts.Need-loop-holds (calls t) (lower-map-at t) lower-map.Post Inv-loop μ-loop
+loop-holds t c = (omega arith, refl, refl, refl, rw (sub-zero _))
+
+lower-entry-requires : (t : ℕ) → lower-map-lts.Need-lower-entry-requires (calls t) (lower-map-at t) lower-map.Post Inv-loop μ-loop
+lower-entry-requires t c κs =
+    let at-test = c .before .before .before .before .before in
+    let at-emitted = at-test .before .before .before .before .before .before in
+    let at-value = at-emitted .before .before .before .before in
+    let at-count = at-value .before .before .before .before in
+    let start = at-count .before .before .before .before .before .before .before .before in
+    let below = rw (← at-count .before .node-word .ensures, ← at-count .node-word2 .ensures) at (below-of (start .pre .1 .0 .0 .0) _ mapKind (start .pre .1 .1)) in
+    let i = at-test .before .loop .i in (
+      omega (arith, start .pre .0),
+      (
+        start .pre .1 .0 .0,
+        (
+          rw (c .before .before .before .before .word .ensures) (below .key i (at-test .loop-test .taken)),
+          (λ h. rw (c .before .before .before .word2 .ensures) (below .value i (at-test .loop-test .taken) (rw (c .before .before .before .word2 .ensures) at h))),
+        ),
+      ),
+    )
+
+returns-3 : (t : ℕ) → lower-map-lts.Need-returns-3 (calls t) (lower-map-at t) lower-map.Post Inv-loop μ-loop
+unfolding lowerNode wordsOf
+returns-3 t c =
+    let at-entry = c .before .before .before .before .before .before .before .before in
+    let at-words = at-entry .before .before .before .before in
+    let at-test = at-words .before .before in
+    let at-counted = at-test .before .before in
+    let at-emitted = at-counted .before .before .before .before in
+    let at-value = at-emitted .before .before .before .before in
+    let at-refusal = at-value .before .before in
+    let at-count = at-refusal .before .before in
+    let start = at-count .before .before .before .before .before .before .before .before in
+    let tree = treeOf (start .args .nodes .now) (start .args .list .now) (start .args .names .now) in
+    let left = rw (at-emitted .before .reg-of .ensures) at (at-emitted .emit-instruction .ensures .0) in
+    expression-of (start .pre .1 .0 .0 .0) _ mapKind (start .pre .1 .1) _ _
+    (then-by tree _ registerAt _ _ _ (at-refusal .before .destination .ensures .0 tree _ _ _) (at-refusal .is-refusal .ensures) (at-value .before .if1 .left) (at-value .value-of .ensures)
+    (then-emitted tree _ _ _ _ refl left (at-counted .before .if2 .left) (at-counted .counted .ensures Refusal.Code)
+    (rw (← at-count .before .node-word .ensures, ← at-count .node-word2 .ensures)
+    (entries-stop _ _ _ _ _ _ _ _ (at-test .before .loop .inv .4) _ _ _ _ (at-test .loop-test .taken) (at-words .before .word .ensures) (at-words .word2 .ensures) (at-entry .lower-entry .ensures)
+    (c .before .is-refusal2 .ensures) _ (operandAt _) (c .if3 .taken)))))
+
+add-i : (t : ℕ) → lower-map-lts.Need-add-i (calls t) (lower-map-at t) lower-map.Post Inv-loop μ-loop
+add-i t c =
+    let at-refusal2 = c .before .before in
+    let at-entry = at-refusal2 .before .before .before .before .before .before .before in
+    let at-test = at-entry .before .before .before .before .before .before in
+    let at-emitted = at-test .before .before .before .before .before .before in
+    let at-count = at-emitted .before .before .before .before .before .before .before .before in
+    omega (arith, at-test .loop-test .taken, at-count .node-word2 .ok)
+
+loop-less : (t : ℕ) → lower-map-lts.Need-loop-less (calls t) (lower-map-at t) lower-map.Post Inv-loop μ-loop
+loop-less t c =
+    let at-refusal2 = c .before .before in
+    let at-entry = at-refusal2 .before .before .before .before .before .before .before in
+    omega (arith, at-entry .before .before .before .before .before .before .loop-test .taken)
+
+loop-again : (t : ℕ) → lower-map-lts.Need-loop-again (calls t) (lower-map-at t) lower-map.Post Inv-loop μ-loop
+loop-again t c =
+    let at-refusal2 = c .before .before in
+    let at-entry = at-refusal2 .before .before .before .before .before .before .before in
+    let at-words = at-entry .before .before .before .before in
+    let at-test = at-words .before .before in
+    let inv = at-test .before .loop .inv in
+    let kept = at-entry .lower-entry .kept in (
+      omega (arith, at-test .loop-test .taken),
+      kept .1 .1 .1 .0 ∙ inv .1,
+      kept .1 .1 .1 .1 .0 ∙ inv .2,
+      kept .1 .1 .1 .1 .1 .0 ∙ inv .3,
+      entries-again _ _ _ _ _ _ _ _ (inv .4) _ _ _ _ (at-test .loop-test .taken) (at-words .before .word .ensures) (at-words .word2 .ensures) (at-entry .lower-entry .ensures)
+          (at-refusal2 .is-refusal2 .ensures) (c .before .if3 .left),
+    )
+
+returns-4 : (t : ℕ) → lower-map-lts.Need-returns-4 (calls t) (lower-map-at t) lower-map.Post Inv-loop μ-loop
+unfolding lowerNode wordsOf settled
+returns-4 t c =
+    let at-loop = c .before .before in
+    let at-counted = at-loop .before in
+    let at-emitted = at-counted .before .before .before .before in
+    let at-value = at-emitted .before .before .before .before in
+    let at-refusal = at-value .before .before in
+    let at-count = at-refusal .before .before in
+    let start = at-count .before .before .before .before .before .before .before .before in
+    let destination = at-refusal .before .destination .ensures in
+    let tree = treeOf (start .args .nodes .now) (start .args .list .now) (start .args .names .now) in
+    let left = rw (at-emitted .before .reg-of .ensures) at (at-emitted .emit-instruction .ensures .0) in
+    let few = register-value _ (sym (at-refusal .is-refusal .ensures) ∙ at-value .before .if1 .left) (destination .1 (start .pre .1 .0 .1)) in
+    rw (c .answered .ensures .0, c .answered .ensures .1)
+    (expression-of (start .pre .1 .0 .0 .0) _ mapKind (start .pre .1 .1) _ _
+    (then-by tree _ registerAt _ _ _ (destination .0 tree _ _ _) (at-refusal .is-refusal .ensures) (at-value .before .if1 .left) (at-value .value-of .ensures)
+    (then-emitted tree _ _ _ _ refl left (at-counted .before .if2 .left) (at-counted .counted .ensures Refusal.Code)
+    (rw (← at-count .before .node-word .ensures, ← at-count .node-word2 .ensures)
+    (then-done _ (entries-none _ _ _ _ _ _ _ _ (at-loop .loop .inv .4) (omega (arith, c .before .loop-test .left, at-loop .loop .inv .0)))
+    (ended _ _ _ _ (rw (at-value .value-of .ensures) few)))))))
+
+pub lower-map-proof : {M : Type 1} (t : ℕ) → lower-map-lts.Closed (calls t) (lower-map-at t) lower-map.Post M
+lower-map-proof t =
+    lower-map-lts.spec (calls t) (lower-map-at t) lower-map.Post Inv-loop μ-loop
+    (node-word-requires t)
+    (λ c. search needs)
+    (node-word-requires-2 t)
+    (λ c κs. search needs)
+    (λ c κs. search needs)
+    (returns t)
+    (λ c κs. search needs)
+    (λ c κs. search needs)
+    (λ c κs. search needs)
+    (λ c κs. search needs)
+    (λ c. search needs)
+    (returns-2 t)
+    (λ c κs. search needs)
+    (loop-holds t)
+    (λ c. omega arith)
+    (λ c. omega arith)
+    (λ c. omega arith)
+    (λ c κs. search needs)
+    (λ c. omega arith)
+    (λ c κs. search needs)
+    (lower-entry-requires t)
+    (λ c κs. search needs)
+    (λ c. search needs)
+    (λ c. search needs)
+    (λ c. search needs)
+    (returns-3 t)
+    (add-i t)
+    (loop-less t)
+    (loop-again t)
+    (λ c κs. search needs)
+    (λ c. search needs)
+    (λ c. search needs)
+    (λ c. search needs)
+    (returns-4 t)
