@@ -11,7 +11,7 @@ use std::thread;
 pub const THREAD_STACK: usize = 8 << 20;
 
 /// What the port may take of it: the rest is the caller's.
-pub const MOST_TAKEN: usize = 7_800_000;
+pub const MOST_TAKEN: usize = 6_800_000;
 
 /// Stack that is painted before a call, and stack beside it for what stands around the call.
 const PAINTED: usize = 32 << 20;
