@@ -1,7 +1,7 @@
 -- The laws of the arms that lower a child into a register: and, or, if, and the arguments of a call. Assumes nothing.
-use Prim.Native.Nat.{ℕ, suc, _+_, _*_, _-_, _%_, _<_, _≤_}
+use Prim.Native.Nat.{ℕ, suc, _+_, _-_, _%_, _<_, _≤_}
 use native.Mathlib.Omega.{arith}
-use mathlib.Core.Path.{_≡_, refl, sym, _∙_, ap}
+use mathlib.Core.Path.{_≡_, refl, sym, _∙_}
 use mathlib.Core.Logic.{_≢_, _⊎_, inl, inr}
 use mathlib.Core.Bool.{Bool, true, false, cond}
 use mathlib.Core.List.{List, [], _∷_}
@@ -24,38 +24,17 @@ use Rattle.lowering.specs.declared.Dest.{Dest}
 use Rattle.lowering.specs.declared.State.{State}
 use Rattle.lowering.specs.Tree.{Tree, node, spanStart, spanEnd}
 use Rattle.lowering.specs.Checked.{Checked, IfBelow, CallBelow}
-use Rattle.lowering.specs.Walk.{Made, made, Outcome, ends, stops, Walk, bind, _>>=_, _>>_, ret}
+use Rattle.lowering.specs.Walk.{Made, made, Outcome, Walk, bind, _>>=_, _>>_, ret}
 use Rattle.lowering.specs.Steps.{freeTemp, withRegisters, destination, emit, patchToNext, mark}
 use Rattle.lowering.specs.Lower.{refuse, lowerMaterializing, lowerArguments, lowerElse, lowerNode, lowerExpression, lowerJumpIfFalse}
 use Rattle.lower_ast.specs.Arguments.{markArgument}
 use Rattle.steps.specs.declared.answer.Lowered.{Lowered}
-use Rattle.steps.specs.Answers.{any, registerAt, destOf, operandAt, settled, seen, isRefusal, isInner, valueOf, refusalWord, namesNode, errorAt, wordEnd, unitAt, RegisterOrRefusal}
-use Rattle.steps.proofs.Words.{register-value, registerAt-local}
+use Rattle.steps.specs.Answers.{any, registerAt, destOf, operandAt, settled, seen, isRefusal, isInner, valueOf, refusalWord, namesNode, errorAt, wordEnd, unitAt}
+use Rattle.steps.proofs.Words.{registerAt-local}
 use Rattle.steps.proofs.Chains.{stop-by, seen-refusal, seen-word}
-use Rattle.codegen.specs.Ready.{Ready, ReadyTo}
-use Rattle.codegen.specs.Flat.{Seen}
 use Rattle.codegen.specs.Kinds.{binaryKind, andKind, orKind, ifKind, callKind}
-use Rattle.codegen.proofs.Walk.{below-of, expression-of, falling, child-into, child-register, then-into, then-freed}
-
--- ---- what a child is asked for with
-
--- the register that was taken, or asked for
-pub register-read : {a d : ℕ} {b : Bool} → b ≡ isRefusal a → b ≡ false → d ≡ valueOf a → RegisterOrRefusal a → d < any
-register-read {a} told left read word = rw read (register-value a (sym told ∙ left) word)
-
-module _ (nodes list names : List ℕ) {i : ℕ} (ready : Ready nodes list names i) where
-  -- a lower node may be looked at
-  pub seen-below : {n : ℕ} → n < i → Seen nodes names n
-  seen-below h = (falling nodes list names (ready .0), (ready .1 .0, omega (arith, ready .1 .1)))
-
-  -- and, if it is not flat, walked
-  pub walked-below : (a : ℕ) {n t dest : ℕ} → n < i → (isInner a ≡ true → valueOf a ≤ n) → dest ≤ any → 8 * i ≤ t →
-      (cond (isInner a) (8 * valueOf a + 3) 0 < t) × (isInner a ≡ true → ReadyTo nodes list names (valueOf a) dest)
-  walked-below a {t = t} h low few rank = (go (isInner a) refl, λ inner. ((ready .0, (ready .1 .0, omega (arith, ready .1 .1, low inner))), few))
-    where
-      go : (b : Bool) → isInner a ≡ b → cond b (8 * valueOf a + 3) 0 < t
-      go true e = omega (arith, low e)
-      go false e = omega arith
+use Rattle.codegen.proofs.Walk.{below-of, expression-of, then-into, then-freed}
+use Rattle.codegen.proofs.Operands.{into-of}
 
 -- ---- a child in d
 
@@ -80,11 +59,7 @@ module _ {nodes names code code₁ code₂ pool pool₁ pool₂ marks marks₂ :
     × (isInner (f .answer) ≡ false → (r ≡ f) × ((code₂ ≡ code₁) × ((pool₂ ≡ pool₁) × (marks₂ ≡ marks))))) where
   branch : settled (lowerMaterializing (lowerExpression freeTemp (treeWith nodes list names) n) (Dest.To (registerAt d)) (made code pool marks s))
       ≡ seen (treeWith nodes list names) registerAt (made code₂ pool₂ marks₂ (r .state)) (r .answer)
-  branch =
-      child-into checked n _ _ _ _ _ _
-      (λ h. let same = walked .1 h in (rw (same .0, same .1 .0, same .1 .1 .0, same .1 .1 .1), ap (λ x. x .answer) (same .0)))
-      (λ h. let same = peeked .1 .0 h .0 .1 in rw (same .0, same .1))
-      d few (peeked .0 list marks checked) (peeked .1 .1 list (registerAt d) _ checked) (λ h. peeked .1 .0 h .1 .1) (walked .0)
+  branch = into-of checked few (peeked .1 .0) (λ e m. peeked .1 .1 list e m checked) (walked .0) (walked .1) (peeked .0 list marks checked)
 
   module _ {B : Type 0} (k : Register → Walk B) {b : Bool} (told : b ≡ isRefusal (r .answer)) where
     pub then-branch : {q : Outcome B} → b ≡ false → settled (k (registerAt d) (made code₂ pool₂ marks₂ (r .state))) ≡ q →
@@ -95,23 +70,6 @@ module _ {nodes names code code₁ code₂ pool pool₁ pool₂ marks marks₂ :
         settled (bind (lowerMaterializing (lowerExpression freeTemp (treeWith nodes list names) n) (Dest.To (registerAt d)) (made code pool marks s)) k)
         ≡ seen (treeWith nodes list names) gives (made code₂ pool₂ marks₂ (r .state)) (r .answer)
     stop-branch gives taken = stop-by (treeWith nodes list names) _ registerAt _ (r .answer) k branch gives told taken
-
--- ---- a child in a register, as `peek` and `lower_materializing` left it
-
-pub register-of : {t : Tree} (checked : Checked t) {n : ℕ} {code code₁ code₂ pool pool₁ pool₂ marks marks₂ : List ℕ} {s : State} {f r : Lowered} →
-    (isInner (f .answer) ≡ true → ((f .state ≡ s) × ((code₁ ≡ code) × (pool₁ ≡ pool))) × ((valueOf (f .answer) ≡ n) × (binaryKind ≤ nodeWord (t .nodes) n 0))) →
-    (isInner (f .answer) ≡ true →
-    settled (lowerExpression freeTemp t (valueOf (f .answer)) (destOf any) (made code₁ pool₁ marks s))
-    ≡ seen t (operandAt (node t (valueOf (f .answer)))) (made code₂ pool₂ marks₂ (r .state)) (r .answer)) →
-    (isInner (f .answer) ≡ false → (r ≡ f) × ((code₂ ≡ code₁) × ((pool₂ ≡ pool₁) × (marks₂ ≡ marks)))) →
-    (isInner (f .answer) ≡ false →
-    settled (lowerMaterializing (lowerExpression freeTemp t n) Dest.Any (made code pool marks s)) ≡ seen t registerAt (made code₁ pool₁ marks (f .state)) (f .answer)) →
-    settled (lowerMaterializing (lowerExpression freeTemp t n) Dest.Any (made code pool marks s)) ≡ seen t registerAt (made code₂ pool₂ marks₂ (r .state)) (r .answer)
-register-of checked {n} inner walked done tried =
-    child-register checked n _ _ _ _ _ _
-    (λ h. let same = done h in (rw (same .0, same .1 .0, same .1 .1 .0, same .1 .1 .1), ap (λ x. x .answer) (same .0)))
-    (λ h. let same = inner h .0 .1 in rw (same .0, same .1))
-    tried (λ h. inner h .1 .0) (λ h. inner h .1 .1) walked
 
 -- ---- the end of an arm
 

@@ -92,7 +92,7 @@ fn lower_expression(
         if kind == kind::IF {
             return lower_if(nodes, list, names, code, constants, marks, s, node, dest);
         }
-        return lower_logical(nodes, list, names, code, constants, marks, s, node, dest);
+        return logical(nodes, list, names, code, constants, marks, s, node, dest);
     }
     if kind <= kind::LOGICAL_NOT {
         if kind == kind::BINARY {
@@ -119,7 +119,7 @@ fn lower_expression(
             node,
             dest,
         ),
-        kind::PROPERTY_ACCESS => lower_property(
+        kind::PROPERTY_ACCESS => property(
             nodes,
             list,
             names,
@@ -370,7 +370,7 @@ fn logical_jump(nodes: &[u8], node: u32) -> u32
 }
 
 // And, or: left into the destination, jump, right into the same. Gives nothing back.
-fn lower_logical(
+fn logical(
     nodes: &[u8],
     list: &[u8],
     names: &[u8],
@@ -530,7 +530,7 @@ fn lower_call(
 {
     let callee = node_word(nodes, node, 1);
     let count = node_word(nodes, node, 3);
-    let a = lower_arguments(nodes, list, names, code, constants, marks, state, node);
+    let a = arguments(nodes, list, names, code, constants, marks, state, node);
     if is_refusal(a.answer) {
         return a;
     }
@@ -567,7 +567,7 @@ fn lower_call(
 }
 
 // The arguments of a call: argument i into local i, and the last instruction marked.
-fn lower_arguments(
+fn arguments(
     nodes: &[u8],
     list: &[u8],
     names: &[u8],
@@ -609,7 +609,7 @@ fn lower_arguments(
 }
 
 // Property: destination, object, key pooled. Gives back what the object held.
-fn lower_property(
+fn property(
     nodes: &[u8],
     list: &[u8],
     names: &[u8],
@@ -697,7 +697,7 @@ fn lower_map(
         let key = word(list, at);
         let value = word(list, at + 1);
         let u = s;
-        let r = lower_entry(
+        let r = entry(
             nodes,
             list,
             names,
@@ -721,7 +721,7 @@ fn lower_map(
 }
 
 // One entry. A name key is not looked up if it has a value, and is pooled after the value is lowered; any other key is lowered before its value.
-fn lower_entry(
+fn entry(
     nodes: &[u8],
     list: &[u8],
     names: &[u8],
@@ -860,9 +860,9 @@ fn lower_jump_if_false(
     if is_inner(answer) {
         let t = state;
         if is_compared(nodes, node) {
-            return lower_fused(nodes, list, names, code, constants, marks, t, node, false);
+            return fuse(nodes, list, names, code, constants, marks, t, node, false);
         }
-        return lower_tested(nodes, list, names, code, constants, marks, t, node, false);
+        return test(nodes, list, names, code, constants, marks, t, node, false);
     }
     f
 }
@@ -884,7 +884,7 @@ pub(crate) fn lower_jump_if(
         (now (code .entry)) (now (constants .entry)) (now (marks .entry)) (now (code .exit)) (now (constants .exit)) (now (marks .exit)) state r ⌝ }
 {
     if is_compared(nodes, node) {
-        return lower_fused(
+        return fuse(
             nodes,
             list,
             names,
@@ -896,7 +896,7 @@ pub(crate) fn lower_jump_if(
             sense,
         );
     }
-    lower_tested(
+    test(
         nodes,
         list,
         names,
@@ -921,7 +921,7 @@ fn is_compared(nodes: &[u8], node: u32) -> bool
 }
 
 // A node in a register, then JumpIfFalse or JumpIfTrue. Its place is the answer.
-fn lower_tested(
+fn test(
     nodes: &[u8],
     list: &[u8],
     names: &[u8],
@@ -956,7 +956,7 @@ fn lower_tested(
 }
 
 // Left, right, constants pooled, one fused jump; two literals are tested like anything else. No destination is taken, nothing is given back.
-fn lower_fused(
+fn fuse(
     nodes: &[u8],
     list: &[u8],
     names: &[u8],
@@ -990,7 +990,7 @@ fn lower_fused(
     let s = r2.state;
     if (src1 == LITERAL) & (src2 == LITERAL) {
         let u = s;
-        return lower_tested(nodes, list, names, code, constants, marks, u, node, sense);
+        return test(nodes, list, names, code, constants, marks, u, node, sense);
     }
     fused_jump(nodes, code, constants, s, node, sense, src1, src2)
 }

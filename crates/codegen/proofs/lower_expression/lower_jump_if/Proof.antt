@@ -5,7 +5,7 @@ use Rattle.codegen.proofs.Conditions.{not-compared}
 use Rattle.codegen.proofs.lower_expression.lower_jump_if.Statement.{statement}
 use Rattle.codegen.proofs.lower_expression.lower_jump_if.Tie as tie
 
-lower-fused-requires : tie.Need-lower-fused-requires
+lower-fused-requires : tie.Need-fuse-requires
 lower-fused-requires c κs =
     let at-compared = c .before .before .before in
     let asked = at-compared .before in
@@ -16,7 +16,7 @@ returns-2 : tie.Need-returns-2
 returns-2 c =
     let at-tested = c .before .before .before .before .before .before in
     let at-other = at-tested .before .before .before .before in
-    rw (not-compared _ _ _ _ _ (sym (at-other .before .is-compared .ensures) ∙ at-other .if1 .left)) (at-tested .lower-tested .ensures)
+    rw (not-compared _ _ _ _ _ (sym (at-other .before .is-compared .ensures) ∙ at-other .if1 .left)) (at-tested .test .ensures)
 
 pub lower-jump-if-spec : {M : Type 1} → statement M
 lower-jump-if-spec =

@@ -11,20 +11,20 @@ use Rattle.codegen.proofs.lower_expression.lower_block.Reads as lower-b
 use Rattle.codegen.proofs.lower_expression.lower_call.Reads as lower-call
 use Rattle.codegen.proofs.lower_expression.lower_expression.Reads as lower-expression
 use Rattle.codegen.proofs.lower_expression.lower_if.Reads as lower-if
-use Rattle.codegen.proofs.lower_expression.lower_logical.Reads as lower-logical
+use Rattle.codegen.proofs.lower_expression.logical.Reads as lower-logical
 use Rattle.codegen.proofs.lower_expression.lower_map.Reads as lower-map
-use Rattle.codegen.proofs.lower_expression.lower_property.Reads as lower-property
+use Rattle.codegen.proofs.lower_expression.property.Reads as lower-property
 use Rattle.codegen.proofs.lower_expression.lower_unary.Reads as lower-unary
 use Rattle.codegen.proofs.lower_expression.lower_name.Reads as lower-name-reads
 use Rattle.codegen.proofs.read.node_word.Reads as node-word-reads
 use Rattle.steps.proofs.answer.answered.Reads as answered-reads
-use Rattle.codegen.proofs.lower_expression.+lower_arguments+lower_binary+lower_block+lower_call+lower_entry+lower_expression+lower_fused+lower_if+lower_jump_if_false+lower_logical+lower_map+lower_materializing+lower_property+lower_tested+lower_unary.Lts-lower_expression as lts
-use Rattle.codegen.proofs.lower_expression.+lower_arguments+lower_binary+lower_block+lower_call+lower_entry+lower_expression+lower_fused+lower_if+lower_jump_if_false+lower_logical+lower_map+lower_materializing+lower_property+lower_tested+lower_unary.Proof.Measures.{lower-binary-below, lower-block-below, lower-call-below, lower-expression-at, lower-if-below, lower-logical-below, lower-map-below, lower-property-below, lower-unary-below}
+use Rattle.codegen.proofs.lower_expression.+arguments+entry+fuse+logical+lower_binary+lower_block+lower_call+lower_expression+lower_if+lower_jump_if_false+lower_map+lower_materializing+lower_unary+property+test.Lts-lower_expression as lts
+use Rattle.codegen.proofs.lower_expression.+arguments+entry+fuse+logical+lower_binary+lower_block+lower_call+lower_expression+lower_if+lower_jump_if_false+lower_map+lower_materializing+lower_unary+property+test.Proof.Measures.{lower-binary-below, lower-block-below, lower-call-below, lower-expression-at, lower-if-below, lower-logical-below, lower-map-below, lower-property-below, lower-unary-below}
 
 abbrev calls : ℕ → lts.Claims
 calls t = (node-word-reads.Asked, node-word-reads.Learnt, lower-if-below t, lower-if.Post, lower-logical-below t, lower-logical.Post, lower-binary-below t, lower-binary.Post, answered-reads.Asked, answered-reads.Learnt, lower-name-reads.Asked, lower-name-reads.Learnt, lower-unary-below t, lower-unary.Post, lower-block-below t, lower-block.Post, lower-call-below t, lower-call.Post, lower-property-below t, lower-property.Post, lower-map-below t, lower-map.Post)
 
-lower-logical-requires : (t : ℕ) → lts.Need-lower-logical-requires (calls t) (lower-expression-at t) lower-expression.Post
+lower-logical-requires : (t : ℕ) → lts.Need-logical-requires (calls t) (lower-expression-at t) lower-expression.Post
 lower-logical-requires t c κs =
     let at-if = c .before .before .before in
     let at-logical = at-if .before in

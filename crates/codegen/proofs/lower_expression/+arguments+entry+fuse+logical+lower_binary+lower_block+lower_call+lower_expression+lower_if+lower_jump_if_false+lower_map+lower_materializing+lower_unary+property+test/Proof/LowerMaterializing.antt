@@ -8,8 +8,8 @@ use Rattle.codegen.proofs.lower_expression.lower_expression.Reads as lo
 use Rattle.codegen.proofs.lower_expression.lower_materializing.Reads as lower-materializing
 use Rattle.steps.proofs.answer.is_inner.Reads as is-inner-reads
 use Rattle.steps.proofs.answer.value_of.Reads as value-of-reads
-use Rattle.codegen.proofs.lower_expression.+lower_arguments+lower_binary+lower_block+lower_call+lower_entry+lower_expression+lower_fused+lower_if+lower_jump_if_false+lower_logical+lower_map+lower_materializing+lower_property+lower_tested+lower_unary.Lts-lower_materializing as lts
-use Rattle.codegen.proofs.lower_expression.+lower_arguments+lower_binary+lower_block+lower_call+lower_entry+lower_expression+lower_fused+lower_if+lower_jump_if_false+lower_logical+lower_map+lower_materializing+lower_property+lower_tested+lower_unary.Proof.Measures.{lower-expression-below, lower-materializing-at}
+use Rattle.codegen.proofs.lower_expression.+arguments+entry+fuse+logical+lower_binary+lower_block+lower_call+lower_expression+lower_if+lower_jump_if_false+lower_map+lower_materializing+lower_unary+property+test.Lts-lower_materializing as lts
+use Rattle.codegen.proofs.lower_expression.+arguments+entry+fuse+logical+lower_binary+lower_block+lower_call+lower_expression+lower_if+lower_jump_if_false+lower_map+lower_materializing+lower_unary+property+test.Proof.Measures.{lower-expression-below, lower-materializing-at}
 
 abbrev calls : ℕ → lts.Claims
 calls t = (is-inner-reads.Asked, is-inner-reads.Learnt, value-of-reads.Asked, value-of-reads.Learnt, lower-expression-below t, lower-expression.Post)

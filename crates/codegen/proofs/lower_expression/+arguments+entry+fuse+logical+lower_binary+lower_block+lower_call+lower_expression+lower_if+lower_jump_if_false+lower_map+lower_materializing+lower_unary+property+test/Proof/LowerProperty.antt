@@ -14,8 +14,8 @@ use Rattle.codegen.proofs.Walk.{below-of, expression-of, falling, then-
 use Rattle.codegen.proofs.Operands.{register-word, walk-requires, register-of}
 use Rattle.codegen.proofs.flat.peek.Reads as peek-reads
 use Rattle.codegen.proofs.lower_expression.lower_materializing.Reads as lower-materializing
-use Rattle.codegen.proofs.lower_expression.lower_property.Reads as lower-property
-use Rattle.codegen.proofs.lower_expression.+lower_arguments+lower_binary+lower_block+lower_call+lower_entry+lower_expression+lower_fused+lower_if+lower_jump_if_false+lower_logical+lower_map+lower_materializing+lower_property+lower_tested+lower_unary.Lts-lower_property as lower-property-lts
+use Rattle.codegen.proofs.lower_expression.property.Reads as lower-property
+use Rattle.codegen.proofs.lower_expression.+arguments+entry+fuse+logical+lower_binary+lower_block+lower_call+lower_expression+lower_if+lower_jump_if_false+lower_map+lower_materializing+lower_unary+property+test.Lts-property as lower-property-lts
 use Rattle.codegen.proofs.read.node_word.Reads as node-word-reads
 use Rattle.environment.proofs.RegisterSet.give_back.Reads as give-back-reads
 use Rattle.runtime.proofs.function.emit_instruction.Reads as emit-instruction-reads
@@ -27,7 +27,7 @@ use Rattle.steps.proofs.answer.refused.Reads as refused-reads
 use Rattle.steps.proofs.answer.value_of.Reads as value-of-reads
 use Rattle.steps.proofs.step.destination.Reads as destination-reads
 use Rattle.words.proofs.counted.Reads as counted-reads
-use Rattle.codegen.proofs.lower_expression.+lower_arguments+lower_binary+lower_block+lower_call+lower_entry+lower_expression+lower_fused+lower_if+lower_jump_if_false+lower_logical+lower_map+lower_materializing+lower_property+lower_tested+lower_unary.Proof.Measures.{lower-property-at, lower-materializing-below}
+use Rattle.codegen.proofs.lower_expression.+arguments+entry+fuse+logical+lower_binary+lower_block+lower_call+lower_expression+lower_if+lower_jump_if_false+lower_map+lower_materializing+lower_unary+property+test.Proof.Measures.{lower-property-at, lower-materializing-below}
 
 abbrev pub calls : ℕ → lower-property-lts.Claims
 calls t = (node-word-reads.Asked, node-word-reads.Learnt, destination-reads.Asked, destination-reads.Learnt, is-refusal-reads.Asked, is-refusal-reads.Learnt, value-of-reads.Asked, value-of-reads.Learnt, peek-reads.Asked, peek-reads.Learnt, lower-materializing-below t, lower-materializing.Post, store-constant-reads.Asked, store-constant-reads.Learnt, refused-reads.Asked, refused-reads.Learnt, counted-reads.Asked, counted-reads.Learnt, reg-of-reads.Asked, reg-of-reads.Learnt, emit-instruction-reads.Asked, emit-instruction-reads.Learnt, give-back-reads.Asked, give-back-reads.Learnt, answered-reads.Asked, answered-reads.Learnt)

@@ -15,16 +15,16 @@ use Rattle.codegen.specs.Ready.{Lowers}
 use Rattle.codegen.proofs.Walk.{falling}
 use Rattle.codegen.proofs.Children.{child-seen, child-asked, child-given}
 use Rattle.codegen.proofs.Conditions.{compared-kind, compared-below, compared, two-literals, two-sources}
-use Rattle.codegen.proofs.lower_expression.lower_fused.Reads as lower-fused
+use Rattle.codegen.proofs.lower_expression.fuse.Reads as lower-fused
 use Rattle.codegen.proofs.lower_expression.lower_materializing.Reads as lower-materializing
-use Rattle.codegen.proofs.lower_expression.lower_tested.Reads as lower-tested
+use Rattle.codegen.proofs.lower_expression.test.Reads as lower-tested
 use Rattle.codegen.proofs.flat.fused_jump.Reads as fused-jump-reads
 use Rattle.codegen.proofs.flat.peek.Reads as peek-reads
 use Rattle.codegen.proofs.read.node_word.Reads as node-word-reads
 use Rattle.steps.proofs.answer.is_refusal.Reads as is-refusal-reads
 use Rattle.steps.proofs.answer.value_of.Reads as value-of-reads
-use Rattle.codegen.proofs.lower_expression.+lower_arguments+lower_binary+lower_block+lower_call+lower_entry+lower_expression+lower_fused+lower_if+lower_jump_if_false+lower_logical+lower_map+lower_materializing+lower_property+lower_tested+lower_unary.Lts-lower_fused as lts
-use Rattle.codegen.proofs.lower_expression.+lower_arguments+lower_binary+lower_block+lower_call+lower_entry+lower_expression+lower_fused+lower_if+lower_jump_if_false+lower_logical+lower_map+lower_materializing+lower_property+lower_tested+lower_unary.Proof.Measures.{lower-fused-at, lower-materializing-below, lower-tested-below}
+use Rattle.codegen.proofs.lower_expression.+arguments+entry+fuse+logical+lower_binary+lower_block+lower_call+lower_expression+lower_if+lower_jump_if_false+lower_map+lower_materializing+lower_unary+property+test.Lts-fuse as lts
+use Rattle.codegen.proofs.lower_expression.+arguments+entry+fuse+logical+lower_binary+lower_block+lower_call+lower_expression+lower_if+lower_jump_if_false+lower_map+lower_materializing+lower_unary+property+test.Proof.Measures.{lower-fused-at, lower-materializing-below, lower-tested-below}
 
 abbrev calls : ℕ → lts.Claims
 calls t = (node-word-reads.Asked, node-word-reads.Learnt, peek-reads.Asked, peek-reads.Learnt, lower-materializing-below t, lower-materializing.Post, is-refusal-reads.Asked, is-refusal-reads.Learnt, value-of-reads.Asked, value-of-reads.Learnt, lower-tested-below t, lower-tested.Post, fused-jump-reads.Asked, fused-jump-reads.Learnt)
@@ -143,7 +143,7 @@ module _ (t : ℕ) where
       (stop-by _ _ _ _ _ _ (right-given walked) placeAt (c .before .is-refusal2 .ensures) (c .if2 .taken)))
 
   -- ---- the jump
-  lower-tested-requires : lts.Need-lower-tested-requires (calls t) (lower-fused-at t) lower-fused.Post
+  lower-tested-requires : lts.Need-test-requires (calls t) (lower-fused-at t) lower-fused.Post
   lower-tested-requires c κs =
       let start = at-start (both-sides (right-walked (c .before .before .before .before .before .before .before))) in
       (omega (arith, start .pre .0), start .pre .1 .0)
@@ -162,7 +162,7 @@ module _ (t : ℕ) where
       (λ k e.
       then-by _ _ _ _ _ _ (left-given (left-walked asked)) (asked .is-refusal .ensures) (value .before .if1 .left) (value .value-of .ensures)
       (then-by _ _ _ _ _ _ (right-given walked) (asked2 .is-refusal2 .ensures) (value2 .before .if2 .left) (value2 .value-of2 .ensures)
-      (two-literals _ _ (at-start read .pre .1 .1) (read .before .node-word .ensures) (read .node-word2 .ensures) _ _ _ _ k _ _ (at-literals .if3 .taken) (at-tested .lower-tested .ensures))))
+      (two-literals _ _ (at-start read .pre .1 .1) (read .before .node-word .ensures) (read .node-word2 .ensures) _ _ _ _ k _ _ (at-literals .if3 .taken) (at-tested .test .ensures))))
 
   fused-jump-requires : lts.Need-fused-jump-requires (calls t) (lower-fused-at t) lower-fused.Post
   fused-jump-requires c κs =
@@ -207,9 +207,9 @@ lower-fused-proof t =
     (returns-2 t)
     (λ c κs. search needs)
     (lower-tested-requires t)
-    (λ c. let tested = c .before .before .before .before .before .before in tested .lower-tested .kept .1 .1 .1 .0 ∙ right-lengths t (right-walked t (tested .before .before .before .before .before .before .before .before)) .0)
-    (λ c. let tested = c .before .before .before .before .before .before in tested .lower-tested .kept .1 .1 .1 .1 .0 ∙ right-lengths t (right-walked t (tested .before .before .before .before .before .before .before .before)) .1 .0)
-    (λ c. let tested = c .before .before .before .before .before .before in tested .lower-tested .kept .1 .1 .1 .1 .1 .0 ∙ right-lengths t (right-walked t (tested .before .before .before .before .before .before .before .before)) .1 .1)
+    (λ c. let tested = c .before .before .before .before .before .before in tested .test .kept .1 .1 .1 .0 ∙ right-lengths t (right-walked t (tested .before .before .before .before .before .before .before .before)) .0)
+    (λ c. let tested = c .before .before .before .before .before .before in tested .test .kept .1 .1 .1 .1 .0 ∙ right-lengths t (right-walked t (tested .before .before .before .before .before .before .before .before)) .1 .0)
+    (λ c. let tested = c .before .before .before .before .before .before in tested .test .kept .1 .1 .1 .1 .1 .0 ∙ right-lengths t (right-walked t (tested .before .before .before .before .before .before .before .before)) .1 .1)
     (returns-3 t)
     (fused-jump-requires t)
     (λ c. let fused = c .before .before .before .before in fused .fused-jump .kept .1 .0 ∙ right-lengths t (right-walked t (fused .before .before .before .before .before .before .before)) .0)

@@ -1,6 +1,6 @@
 -- The needs of `lower_arguments`. The loop's invariant: the arguments that are left give what all of them give, and the buffers are as long as they were. The measure is
 -- how many are left. Assumes nothing.
-use Prim.Native.Nat.{ℕ, _+_, _-_, _<_}
+use Prim.Native.Nat.{ℕ, _-_}
 use native.Mathlib.Omega.{arith}
 use native.Mathlib.Nat.{sub-zero}
 use mathlib.Core.Path.{_≡_, refl, _∙_}
@@ -17,9 +17,11 @@ use Rattle.lowering.specs.Lower.{lowerArguments, lowerExpression}
 use Rattle.steps.specs.Answers.{unitAt, settled}
 use Rattle.steps.proofs.Chains.{then-marked, stop-marked}
 use Rattle.codegen.specs.Ready.{wordOf}
-use Rattle.codegen.proofs.Branches.{seen-below, walked-below, then-branch, stop-branch, by-answer, call-below, arguments-of, arguments-none, then-argument, marked, stop-unmarked}
-use Rattle.codegen.proofs.lower_expression.lower_arguments.Reads as lower-arguments
-use Rattle.codegen.proofs.lower_expression.+lower_arguments+lower_binary+lower_block+lower_call+lower_entry+lower_expression+lower_fused+lower_if+lower_jump_if_false+lower_logical+lower_map+lower_materializing+lower_property+lower_tested+lower_unary.Lts-lower_arguments as lower-arguments-lts
+use Rattle.codegen.proofs.Children.{child-seen}
+use Rattle.codegen.proofs.Operands.{walk-requires}
+use Rattle.codegen.proofs.Branches.{then-branch, stop-branch, by-answer, call-below, arguments-of, arguments-none, then-argument, marked, stop-unmarked}
+use Rattle.codegen.proofs.lower_expression.arguments.Reads as lower-arguments
+use Rattle.codegen.proofs.lower_expression.+arguments+entry+fuse+logical+lower_binary+lower_block+lower_call+lower_expression+lower_if+lower_jump_if_false+lower_map+lower_materializing+lower_unary+property+test.Lts-arguments as lower-arguments-lts
 use Rattle.codegen.proofs.lower_expression.lower_materializing.Reads as lower-materializing
 use Rattle.codegen.proofs.flat.peek_into.Reads as peek-into-reads
 use Rattle.codegen.proofs.read.node_word.Reads as node-word-reads
@@ -30,7 +32,7 @@ use Rattle.steps.proofs.answer.local.Reads as local-reads
 use Rattle.steps.proofs.answer.refused.Reads as refused-reads
 use Rattle.words.proofs.counted.Reads as counted-reads
 use Rattle.words.proofs.word.Reads as word-reads
-use Rattle.codegen.proofs.lower_expression.+lower_arguments+lower_binary+lower_block+lower_call+lower_entry+lower_expression+lower_fused+lower_if+lower_jump_if_false+lower_logical+lower_map+lower_materializing+lower_property+lower_tested+lower_unary.Proof.Measures.{lower-arguments-at, lower-materializing-below}
+use Rattle.codegen.proofs.lower_expression.+arguments+entry+fuse+logical+lower_binary+lower_block+lower_call+lower_expression+lower_if+lower_jump_if_false+lower_map+lower_materializing+lower_unary+property+test.Proof.Measures.{lower-arguments-at, lower-materializing-below}
 
 abbrev pub calls : ℕ → lower-arguments-lts.Claims
 calls t = (node-word-reads.Asked, node-word-reads.Learnt, word-reads.Asked, word-reads.Learnt, local-reads.Asked, local-reads.Learnt, peek-into-reads.Asked, peek-into-reads.Learnt, lower-materializing-below t, lower-materializing.Post, is-refusal-reads.Asked, is-refusal-reads.Learnt, refused-reads.Asked, refused-reads.Learnt, mark-argument-reads.Asked, mark-argument-reads.Learnt, counted-reads.Asked, counted-reads.Learnt, answered-reads.Asked, answered-reads.Learnt)
@@ -89,7 +91,7 @@ peek-into-requires t c κs =
     let at-loop = at-word .before .before in
     let ready = start t at-loop .pre .1 .0 in
     let lower = below t at-loop .argument _ (at-word .before .loop-test .taken) in
-    (seen-below _ _ _ ready (rw (at-word .word .ensures) lower), omega (arith, c .before .before .local .ensures))
+    (child-seen _ _ _ _ _ ready (rw (at-word .word .ensures) lower), omega (arith, c .before .before .local .ensures))
 
 lower-materializing-requires : (t : ℕ) → lower-arguments-lts.Need-lower-materializing-requires (calls t) (lower-arguments-at t) lower-arguments.Post Inv-loop μ-loop
 lower-materializing-requires t c κs =
@@ -98,8 +100,8 @@ lower-materializing-requires t c κs =
     let at-loop = at-word .before .before in
     let at-start = start t at-loop in
     let lower = below t at-loop .argument _ (at-word .before .loop-test .taken) in
-    walked-below _ _ _ (at-start .pre .1 .0) _ (rw (at-word .word .ensures) lower) (λ h. at-peeked .peek-into .ensures .1 .0 h .1 .0)
-    (omega (arith, at-peeked .before .before .before .local .ensures)) (omega (arith, at-start .pre .0))
+    walk-requires _ _ _ _ _ _ (at-start .pre .1 .0) (rw (at-word .word .ensures) lower) (omega (arith, at-start .pre .0)) (omega (arith, at-peeked .before .before .before .local .ensures))
+    (λ h. at-peeked .peek-into .ensures .1 .0 h .1 .0)
 
 returns : (t : ℕ) → lower-arguments-lts.Need-returns (calls t) (lower-arguments-at t) lower-arguments.Post Inv-loop μ-loop
 returns t c =

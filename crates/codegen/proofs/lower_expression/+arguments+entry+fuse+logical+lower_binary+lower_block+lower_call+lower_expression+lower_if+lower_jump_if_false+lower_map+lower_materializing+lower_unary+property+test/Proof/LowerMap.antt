@@ -18,9 +18,9 @@ use Rattle.steps.proofs.Words.{register-value}
 use Rattle.codegen.specs.Kinds.{mapKind}
 use Rattle.codegen.proofs.Walk.{below-of, expression-of, ended}
 use Rattle.codegen.proofs.Entries.{entries-none, entries-again, entries-stop}
-use Rattle.codegen.proofs.lower_expression.lower_entry.Reads as lower-entry
+use Rattle.codegen.proofs.lower_expression.entry.Reads as lower-entry
 use Rattle.codegen.proofs.lower_expression.lower_map.Reads as lower-map
-use Rattle.codegen.proofs.lower_expression.+lower_arguments+lower_binary+lower_block+lower_call+lower_entry+lower_expression+lower_fused+lower_if+lower_jump_if_false+lower_logical+lower_map+lower_materializing+lower_property+lower_tested+lower_unary.Lts-lower_map as lower-map-lts
+use Rattle.codegen.proofs.lower_expression.+arguments+entry+fuse+logical+lower_binary+lower_block+lower_call+lower_expression+lower_if+lower_jump_if_false+lower_map+lower_materializing+lower_unary+property+test.Lts-lower_map as lower-map-lts
 use Rattle.codegen.proofs.read.node_word.Reads as node-word-reads
 use Rattle.runtime.proofs.function.emit_instruction.Reads as emit-instruction-reads
 use Rattle.steps.proofs.answer.answered.Reads as answered-reads
@@ -31,7 +31,7 @@ use Rattle.steps.proofs.answer.value_of.Reads as value-of-reads
 use Rattle.steps.proofs.step.destination.Reads as destination-reads
 use Rattle.words.proofs.counted.Reads as counted-reads
 use Rattle.words.proofs.word.Reads as word-reads
-use Rattle.codegen.proofs.lower_expression.+lower_arguments+lower_binary+lower_block+lower_call+lower_entry+lower_expression+lower_fused+lower_if+lower_jump_if_false+lower_logical+lower_map+lower_materializing+lower_property+lower_tested+lower_unary.Proof.Measures.{lower-entry-below, lower-map-at}
+use Rattle.codegen.proofs.lower_expression.+arguments+entry+fuse+logical+lower_binary+lower_block+lower_call+lower_expression+lower_if+lower_jump_if_false+lower_map+lower_materializing+lower_unary+property+test.Proof.Measures.{lower-entry-below, lower-map-at}
 
 abbrev pub calls : ℕ → lower-map-lts.Claims
 calls t = (
@@ -101,7 +101,7 @@ returns-2 t c =
 loop-holds : (t : ℕ) → lower-map-lts.Need-loop-holds (calls t) (lower-map-at t) lower-map.Post Inv-loop μ-loop
 loop-holds t c = (omega arith, refl, refl, refl, rw (sub-zero _))
 
-lower-entry-requires : (t : ℕ) → lower-map-lts.Need-lower-entry-requires (calls t) (lower-map-at t) lower-map.Post Inv-loop μ-loop
+lower-entry-requires : (t : ℕ) → lower-map-lts.Need-entry-requires (calls t) (lower-map-at t) lower-map.Post Inv-loop μ-loop
 lower-entry-requires t c κs =
     let at-test = c .before .before .before .before .before in
     let at-emitted = at-test .before .before .before .before .before .before in
@@ -138,7 +138,7 @@ returns-3 t c =
     (then-by tree _ registerAt _ _ _ (at-refusal .before .destination .ensures .0 tree _ _ _) (at-refusal .is-refusal .ensures) (at-value .before .if1 .left) (at-value .value-of .ensures)
     (then-emitted tree _ _ _ _ refl left (at-counted .before .if2 .left) (at-counted .counted .ensures Refusal.Code)
     (rw (← at-count .before .node-word .ensures, ← at-count .node-word2 .ensures)
-    (entries-stop _ _ _ _ _ _ _ _ (at-test .before .loop .inv .4) _ _ _ _ (at-test .loop-test .taken) (at-words .before .word .ensures) (at-words .word2 .ensures) (at-entry .lower-entry .ensures)
+    (entries-stop _ _ _ _ _ _ _ _ (at-test .before .loop .inv .4) _ _ _ _ (at-test .loop-test .taken) (at-words .before .word .ensures) (at-words .word2 .ensures) (at-entry .entry .ensures)
     (c .before .is-refusal2 .ensures) _ (operandAt _) (c .if3 .taken)))))
 
 add-i : (t : ℕ) → lower-map-lts.Need-add-i (calls t) (lower-map-at t) lower-map.Post Inv-loop μ-loop
@@ -163,12 +163,12 @@ loop-again t c =
     let at-words = at-entry .before .before .before .before in
     let at-test = at-words .before .before in
     let inv = at-test .before .loop .inv in
-    let kept = at-entry .lower-entry .kept in (
+    let kept = at-entry .entry .kept in (
       omega (arith, at-test .loop-test .taken),
       kept .1 .1 .1 .0 ∙ inv .1,
       kept .1 .1 .1 .1 .0 ∙ inv .2,
       kept .1 .1 .1 .1 .1 .0 ∙ inv .3,
-      entries-again _ _ _ _ _ _ _ _ (inv .4) _ _ _ _ (at-test .loop-test .taken) (at-words .before .word .ensures) (at-words .word2 .ensures) (at-entry .lower-entry .ensures)
+      entries-again _ _ _ _ _ _ _ _ (inv .4) _ _ _ _ (at-test .loop-test .taken) (at-words .before .word .ensures) (at-words .word2 .ensures) (at-entry .entry .ensures)
           (at-refusal2 .is-refusal2 .ensures) (c .before .if3 .left),
     )
 

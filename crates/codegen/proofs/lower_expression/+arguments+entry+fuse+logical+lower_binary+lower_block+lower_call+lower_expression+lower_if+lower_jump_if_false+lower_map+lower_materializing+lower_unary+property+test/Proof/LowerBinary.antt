@@ -17,14 +17,14 @@ use Rattle.codegen.proofs.flat.peek.Reads as peek-reads
 use Rattle.codegen.proofs.lower_expression.lower_binary.Reads as lower-binary
 use Rattle.codegen.proofs.lower_expression.lower_literals.Reads as lower-literals-reads
 use Rattle.codegen.proofs.lower_expression.lower_materializing.Reads as lower-materializing
-use Rattle.codegen.proofs.lower_expression.+lower_arguments+lower_binary+lower_block+lower_call+lower_entry+lower_expression+lower_fused+lower_if+lower_jump_if_false+lower_logical+lower_map+lower_materializing+lower_property+lower_tested+lower_unary.Lts-lower_binary as lower-binary-lts
+use Rattle.codegen.proofs.lower_expression.+arguments+entry+fuse+logical+lower_binary+lower_block+lower_call+lower_expression+lower_if+lower_jump_if_false+lower_map+lower_materializing+lower_unary+property+test.Lts-lower_binary as lower-binary-lts
 use Rattle.codegen.proofs.read.node_word.Reads as node-word-reads
 use Rattle.environment.proofs.RegisterSet.give_back.Reads as give-back-reads
 use Rattle.steps.proofs.answer.answered.Reads as answered-reads
 use Rattle.steps.proofs.answer.is_refusal.Reads as is-refusal-reads
 use Rattle.steps.proofs.answer.value_of.Reads as value-of-reads
 use Rattle.steps.proofs.step.destination.Reads as destination-reads
-use Rattle.codegen.proofs.lower_expression.+lower_arguments+lower_binary+lower_block+lower_call+lower_entry+lower_expression+lower_fused+lower_if+lower_jump_if_false+lower_logical+lower_map+lower_materializing+lower_property+lower_tested+lower_unary.Proof.Measures.{lower-binary-at, lower-materializing-below}
+use Rattle.codegen.proofs.lower_expression.+arguments+entry+fuse+logical+lower_binary+lower_block+lower_call+lower_expression+lower_if+lower_jump_if_false+lower_map+lower_materializing+lower_unary+property+test.Proof.Measures.{lower-binary-at, lower-materializing-below}
 
 abbrev pub calls : ℕ → lower-binary-lts.Claims
 calls t = (node-word-reads.Asked, node-word-reads.Learnt, destination-reads.Asked, destination-reads.Learnt, is-refusal-reads.Asked, is-refusal-reads.Learnt, value-of-reads.Asked, value-of-reads.Learnt, peek-reads.Asked, peek-reads.Learnt, lower-materializing-below t, lower-materializing.Post, lower-literals-reads.Asked, lower-literals-reads.Learnt, binary-operation-reads.Asked, binary-operation-reads.Learnt, give-back-reads.Asked, give-back-reads.Learnt, answered-reads.Asked, answered-reads.Learnt)

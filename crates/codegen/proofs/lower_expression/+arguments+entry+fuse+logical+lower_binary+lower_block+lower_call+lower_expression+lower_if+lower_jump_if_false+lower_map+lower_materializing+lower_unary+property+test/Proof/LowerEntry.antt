@@ -8,9 +8,9 @@ use Rattle.steps.proofs.Chains.{then-by, stop-by}
 use Rattle.steps.proofs.Words.{source-operand}
 use Rattle.codegen.proofs.Children.{child-seen, child-asked, child-given}
 use Rattle.codegen.proofs.Entries.{child-below, name-key, key-alone, key-and-value, store-both}
-use Rattle.codegen.proofs.lower_expression.lower_entry.Reads as lower-entry
+use Rattle.codegen.proofs.lower_expression.entry.Reads as lower-entry
 use Rattle.codegen.proofs.lower_expression.lower_materializing.Reads as lower-materializing
-use Rattle.codegen.proofs.lower_expression.+lower_arguments+lower_binary+lower_block+lower_call+lower_entry+lower_expression+lower_fused+lower_if+lower_jump_if_false+lower_logical+lower_map+lower_materializing+lower_property+lower_tested+lower_unary.Lts-lower_entry as lower-entry-lts
+use Rattle.codegen.proofs.lower_expression.+arguments+entry+fuse+logical+lower_binary+lower_block+lower_call+lower_expression+lower_if+lower_jump_if_false+lower_map+lower_materializing+lower_unary+property+test.Lts-entry as lower-entry-lts
 use Rattle.codegen.proofs.flat.peek.Reads as peek-reads
 use Rattle.codegen.proofs.lower_expression.set_property.Reads as set-property-reads
 use Rattle.codegen.proofs.lower_expression.value_or_key.Reads as value-or-key-reads
@@ -18,7 +18,7 @@ use Rattle.codegen.proofs.read.node_word.Reads as node-word-reads
 use Rattle.steps.proofs.answer.is_refusal.Reads as is-refusal-reads
 use Rattle.steps.proofs.answer.refused.Reads as refused-reads
 use Rattle.steps.proofs.answer.value_of.Reads as value-of-reads
-use Rattle.codegen.proofs.lower_expression.+lower_arguments+lower_binary+lower_block+lower_call+lower_entry+lower_expression+lower_fused+lower_if+lower_jump_if_false+lower_logical+lower_map+lower_materializing+lower_property+lower_tested+lower_unary.Proof.Measures.{lower-entry-at, lower-materializing-below}
+use Rattle.codegen.proofs.lower_expression.+arguments+entry+fuse+logical+lower_binary+lower_block+lower_call+lower_expression+lower_if+lower_jump_if_false+lower_map+lower_materializing+lower_unary+property+test.Proof.Measures.{lower-entry-at, lower-materializing-below}
 
 abbrev pub calls : ℕ → lower-entry-lts.Claims
 calls t = (

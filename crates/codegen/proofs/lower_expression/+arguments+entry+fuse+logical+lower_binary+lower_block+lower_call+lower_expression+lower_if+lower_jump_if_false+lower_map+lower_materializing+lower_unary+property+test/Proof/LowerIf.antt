@@ -13,9 +13,11 @@ use Rattle.lowering.specs.Lower.{lowerNode}
 use Rattle.steps.specs.Answers.{any, registerAt, placeAt, operandAt, settled}
 use Rattle.steps.proofs.Chains.{then-by, stop-by, then-emitted, stop-emitted}
 use Rattle.codegen.proofs.Walk.{then-patched, ended}
-use Rattle.codegen.proofs.Branches.{register-read, seen-below, walked-below, then-branch, stop-branch, by-answer, if-below, if-of, then-else, stop-else}
+use Rattle.codegen.proofs.Children.{child-seen}
+use Rattle.codegen.proofs.Operands.{register-word, walk-requires}
+use Rattle.codegen.proofs.Branches.{then-branch, stop-branch, by-answer, if-below, if-of, then-else, stop-else}
 use Rattle.codegen.proofs.lower_expression.lower_if.Reads as lower-if
-use Rattle.codegen.proofs.lower_expression.+lower_arguments+lower_binary+lower_block+lower_call+lower_entry+lower_expression+lower_fused+lower_if+lower_jump_if_false+lower_logical+lower_map+lower_materializing+lower_property+lower_tested+lower_unary.Lts-lower_if as lower-if-lts
+use Rattle.codegen.proofs.lower_expression.+arguments+entry+fuse+logical+lower_binary+lower_block+lower_call+lower_expression+lower_if+lower_jump_if_false+lower_map+lower_materializing+lower_unary+property+test.Lts-lower_if as lower-if-lts
 use Rattle.codegen.proofs.lower_expression.lower_jump_if_false.Reads as lower-jump-if-false
 use Rattle.codegen.proofs.lower_expression.lower_materializing.Reads as lower-materializing
 use Rattle.codegen.proofs.flat.peek_into.Reads as peek-into-reads
@@ -28,7 +30,7 @@ use Rattle.steps.proofs.answer.value_of.Reads as value-of-reads
 use Rattle.steps.proofs.step.destination.Reads as destination-reads
 use Rattle.steps.proofs.step.patch_to_next.Reads as patch-to-next-reads
 use Rattle.words.proofs.counted.Reads as counted-reads
-use Rattle.codegen.proofs.lower_expression.+lower_arguments+lower_binary+lower_block+lower_call+lower_entry+lower_expression+lower_fused+lower_if+lower_jump_if_false+lower_logical+lower_map+lower_materializing+lower_property+lower_tested+lower_unary.Proof.Measures.{lower-if-at, lower-jump-if-false-below, lower-materializing-below}
+use Rattle.codegen.proofs.lower_expression.+arguments+entry+fuse+logical+lower_binary+lower_block+lower_call+lower_expression+lower_if+lower_jump_if_false+lower_map+lower_materializing+lower_unary+property+test.Proof.Measures.{lower-if-at, lower-jump-if-false-below, lower-materializing-below}
 
 abbrev pub calls : ℕ → lower-if-lts.Claims
 calls t = (node-word-reads.Asked, node-word-reads.Learnt, lower-jump-if-false-below t, lower-jump-if-false.Post, is-refusal-reads.Asked, is-refusal-reads.Learnt, value-of-reads.Asked, value-of-reads.Learnt, destination-reads.Asked, destination-reads.Learnt, peek-into-reads.Asked, peek-into-reads.Learnt, lower-materializing-below t, lower-materializing.Post, emit-instruction-reads.Asked, emit-instruction-reads.Learnt, refused-reads.Asked, refused-reads.Learnt, counted-reads.Asked, counted-reads.Learnt, patch-to-next-reads.Asked, patch-to-next-reads.Learnt, answered-reads.Asked, answered-reads.Learnt)
@@ -72,7 +74,7 @@ few : (t : ℕ) (c : lower-if-lts.After-value-of2 (calls t) (lower-if-at t) lowe
 few t c =
     let at-asked = c .before .before in
     let at-start = start t (from-destination t c) in
-    register-read (at-asked .is-refusal2 .ensures) (c .before .if2 .left) (c .value-of2 .ensures) (at-asked .before .destination .ensures .1 (at-start .pre .1 .0 .1))
+    register-word _ (at-asked .is-refusal2 .ensures) (c .before .if2 .left) (c .value-of2 .ensures) (at-asked .before .destination .ensures .1 (at-start .pre .1 .0 .1))
 
 -- the condition and both branches are lower nodes
 below : (t : ℕ) (c : lower-if-lts.After-lower-jump-if-false (calls t) (lower-if-at t) lower-if.Post) →
@@ -143,7 +145,7 @@ peek-into-requires : (t : ℕ) → lower-if-lts.Need-peek-into-requires (calls t
 peek-into-requires t c κs =
     let at-value = c .before .before .before in
     let at-condition = from-destination t at-value in
-    (seen-below _ _ _ (start t at-condition .pre .1 .0 .0) (below t at-condition .then), few t at-value)
+    (child-seen _ _ _ _ _ (start t at-condition .pre .1 .0 .0) (below t at-condition .then), few t at-value)
 
 lower-materializing-requires : (t : ℕ) → lower-if-lts.Need-lower-materializing-requires (calls t) (lower-if-at t) lower-if.Post
 lower-materializing-requires t c κs =
@@ -151,7 +153,7 @@ lower-materializing-requires t c κs =
     let at-value = at-peeked .before .before .before .before in
     let at-condition = from-destination t at-value in
     let at-start = start t at-condition in
-    walked-below _ _ _ (at-start .pre .1 .0 .0) _ (below t at-condition .then) (λ h. at-peeked .peek-into .ensures .1 .0 h .1 .0) (omega (arith, few t at-value)) (omega (arith, at-start .pre .0))
+    walk-requires _ _ _ _ _ _ (at-start .pre .1 .0 .0) (below t at-condition .then) (omega (arith, at-start .pre .0)) (omega (arith, few t at-value)) (λ h. at-peeked .peek-into .ensures .1 .0 h .1 .0)
 
 returns-3 : (t : ℕ) → lower-if-lts.Need-returns-3 (calls t) (lower-if-at t) lower-if.Post
 unfolding lowerNode
@@ -227,7 +229,7 @@ peek-into-requires-2 t c κs =
     let at-patched = c .before .before .before .before .before in
     let at-value = from-then t (from-jump t (from-patch t at-patched)) in
     let at-condition = from-destination t at-value in
-    (seen-below _ _ _ (start t at-condition .pre .1 .0 .0) (below t at-condition .else (c .before .before .if5 .left)), few t at-value)
+    (child-seen _ _ _ _ _ (start t at-condition .pre .1 .0 .0) (below t at-condition .else (c .before .before .if5 .left)), few t at-value)
 
 lower-materializing-requires-2 : (t : ℕ) → lower-if-lts.Need-lower-materializing-requires-2 (calls t) (lower-if-at t) lower-if.Post
 lower-materializing-requires-2 t c κs =
@@ -236,8 +238,7 @@ lower-materializing-requires-2 t c κs =
     let at-value = from-then t (from-jump t (from-patch t at-patched)) in
     let at-condition = from-destination t at-value in
     let at-start = start t at-condition in
-    walked-below _ _ _ (at-start .pre .1 .0 .0) _ (below t at-condition .else (at-peeked .before .before .before .if5 .left)) (λ h. at-peeked .peek-into2 .ensures .1 .0 h .1 .0)
-    (omega (arith, few t at-value)) (omega (arith, at-start .pre .0))
+    walk-requires _ _ _ _ _ _ (at-start .pre .1 .0 .0) (below t at-condition .else (at-peeked .before .before .before .if5 .left)) (omega (arith, at-start .pre .0)) (omega (arith, few t at-value)) (λ h. at-peeked .peek-into2 .ensures .1 .0 h .1 .0)
 
 returns-6 : (t : ℕ) → lower-if-lts.Need-returns-6 (calls t) (lower-if-at t) lower-if.Post
 unfolding lowerNode wordsOf

@@ -6,14 +6,14 @@ use borrow.Author.Needs.{needs}
 use Rattle.lowering.proofs.Bound.Lowering.{jump-false-at}
 use Rattle.codegen.proofs.Walk.{falling}
 use Rattle.codegen.proofs.Conditions.{not-compared}
-use Rattle.codegen.proofs.lower_expression.lower_fused.Reads as lower-fused
+use Rattle.codegen.proofs.lower_expression.fuse.Reads as lower-fused
 use Rattle.codegen.proofs.lower_expression.lower_jump_if_false.Reads as lower-jump-if-false
-use Rattle.codegen.proofs.lower_expression.lower_tested.Reads as lower-tested
+use Rattle.codegen.proofs.lower_expression.test.Reads as lower-tested
 use Rattle.codegen.proofs.flat.peek_jump.Reads as peek-jump-reads
 use Rattle.codegen.proofs.lower_expression.is_compared.Reads as is-compared-reads
 use Rattle.steps.proofs.answer.is_inner.Reads as is-inner-reads
-use Rattle.codegen.proofs.lower_expression.+lower_arguments+lower_binary+lower_block+lower_call+lower_entry+lower_expression+lower_fused+lower_if+lower_jump_if_false+lower_logical+lower_map+lower_materializing+lower_property+lower_tested+lower_unary.Lts-lower_jump_if_false as lts
-use Rattle.codegen.proofs.lower_expression.+lower_arguments+lower_binary+lower_block+lower_call+lower_entry+lower_expression+lower_fused+lower_if+lower_jump_if_false+lower_logical+lower_map+lower_materializing+lower_property+lower_tested+lower_unary.Proof.Measures.{lower-fused-below, lower-jump-if-false-at, lower-tested-below}
+use Rattle.codegen.proofs.lower_expression.+arguments+entry+fuse+logical+lower_binary+lower_block+lower_call+lower_expression+lower_if+lower_jump_if_false+lower_map+lower_materializing+lower_unary+property+test.Lts-lower_jump_if_false as lts
+use Rattle.codegen.proofs.lower_expression.+arguments+entry+fuse+logical+lower_binary+lower_block+lower_call+lower_expression+lower_if+lower_jump_if_false+lower_map+lower_materializing+lower_unary+property+test.Proof.Measures.{lower-fused-below, lower-jump-if-false-at, lower-tested-below}
 
 abbrev calls : ℕ → lts.Claims
 calls t = (peek-jump-reads.Asked, peek-jump-reads.Learnt, is-inner-reads.Asked, is-inner-reads.Learnt, is-compared-reads.Asked, is-compared-reads.Learnt, lower-fused-below t, lower-fused.Post, lower-tested-below t, lower-tested.Post)
@@ -32,7 +32,7 @@ peek-jump-requires t c κs =
     let start = c .before .before .before .before .before .before .before .before in
     (falling _ _ _ (start .pre .1 .0), start .pre .1 .1)
 
-lower-fused-requires : (t : ℕ) → lts.Need-lower-fused-requires (calls t) (lower-jump-if-false-at t) lower-jump-if-false.Post
+lower-fused-requires : (t : ℕ) → lts.Need-fuse-requires (calls t) (lower-jump-if-false-at t) lower-jump-if-false.Post
 lower-fused-requires t c κs =
     let at-compared = c .before .before .before in
     let start = at-start t (at-compared .before .before .before) in
@@ -45,7 +45,7 @@ returns t c =
     let at-inner = at-walked .before in
     let start = at-start t at-inner in
     let same = at-tried t at-inner .peek-jump .ensures .1 (sym (at-inner .is-inner .ensures) ∙ at-walked .if1 .taken) in
-    rw (jump-false-at (start .pre .1 .0) (start .args .node)) (rw (same .1 .0, same .1 .1) at (at-fused .lower-fused .ensures))
+    rw (jump-false-at (start .pre .1 .0) (start .args .node)) (rw (same .1 .0, same .1 .1) at (at-fused .fuse .ensures))
 
 returns-2 : (t : ℕ) → lts.Need-returns-2 (calls t) (lower-jump-if-false-at t) lower-jump-if-false.Post
 returns-2 t c =
@@ -56,7 +56,7 @@ returns-2 t c =
     let start = at-start t at-inner in
     let same = at-tried t at-inner .peek-jump .ensures .1 (sym (at-inner .is-inner .ensures) ∙ at-walked .if1 .taken) in
     rw (jump-false-at (start .pre .1 .0) (start .args .node), not-compared _ _ _ _ _ (sym (at-compared .before .is-compared .ensures) ∙ at-compared .if2 .left))
-    (rw (same .1 .0, same .1 .1) at (at-tested .lower-tested .ensures))
+    (rw (same .1 .0, same .1 .1) at (at-tested .test .ensures))
 
 returns-3 : (t : ℕ) → lts.Need-returns-3 (calls t) (lower-jump-if-false-at t) lower-jump-if-false.Post
 returns-3 t c =

@@ -6,34 +6,34 @@ use borrow.Fn.Kind.{PK}
 use borrow.Fn.Kinds.{In}
 use borrow.Fn.PlainCycle.{Measures, is, falls, and}
 use Rattle.steps.specs.Answers.{isInner, valueOf}
-use Rattle.codegen.proofs.lower_expression.lower_arguments.Reads as lower-arguments
-use Rattle.codegen.proofs.lower_expression.lower_arguments.Kinds as lower-arguments-kinds
+use Rattle.codegen.proofs.lower_expression.arguments.Reads as lower-arguments
+use Rattle.codegen.proofs.lower_expression.arguments.Kinds as lower-arguments-kinds
 use Rattle.codegen.proofs.lower_expression.lower_binary.Reads as lower-binary
 use Rattle.codegen.proofs.lower_expression.lower_binary.Kinds as lower-binary-kinds
 use Rattle.codegen.proofs.lower_expression.lower_block.Reads as lower-block
 use Rattle.codegen.proofs.lower_expression.lower_block.Kinds as lower-block-kinds
 use Rattle.codegen.proofs.lower_expression.lower_call.Reads as lower-call
 use Rattle.codegen.proofs.lower_expression.lower_call.Kinds as lower-call-kinds
-use Rattle.codegen.proofs.lower_expression.lower_entry.Reads as lower-entry
-use Rattle.codegen.proofs.lower_expression.lower_entry.Kinds as lower-entry-kinds
+use Rattle.codegen.proofs.lower_expression.entry.Reads as lower-entry
+use Rattle.codegen.proofs.lower_expression.entry.Kinds as lower-entry-kinds
 use Rattle.codegen.proofs.lower_expression.lower_expression.Reads as lower-expression
 use Rattle.codegen.proofs.lower_expression.lower_expression.Kinds as lower-expression-kinds
-use Rattle.codegen.proofs.lower_expression.lower_fused.Reads as lower-fused
-use Rattle.codegen.proofs.lower_expression.lower_fused.Kinds as lower-fused-kinds
+use Rattle.codegen.proofs.lower_expression.fuse.Reads as lower-fused
+use Rattle.codegen.proofs.lower_expression.fuse.Kinds as lower-fused-kinds
 use Rattle.codegen.proofs.lower_expression.lower_if.Reads as lower-if
 use Rattle.codegen.proofs.lower_expression.lower_if.Kinds as lower-if-kinds
 use Rattle.codegen.proofs.lower_expression.lower_jump_if_false.Reads as lower-jump-if-false
 use Rattle.codegen.proofs.lower_expression.lower_jump_if_false.Kinds as lower-jump-if-false-kinds
-use Rattle.codegen.proofs.lower_expression.lower_logical.Reads as lower-logical
-use Rattle.codegen.proofs.lower_expression.lower_logical.Kinds as lower-logical-kinds
+use Rattle.codegen.proofs.lower_expression.logical.Reads as lower-logical
+use Rattle.codegen.proofs.lower_expression.logical.Kinds as lower-logical-kinds
 use Rattle.codegen.proofs.lower_expression.lower_map.Reads as lower-map
 use Rattle.codegen.proofs.lower_expression.lower_map.Kinds as lower-map-kinds
 use Rattle.codegen.proofs.lower_expression.lower_materializing.Reads as lower-materializing
 use Rattle.codegen.proofs.lower_expression.lower_materializing.Kinds as lower-materializing-kinds
-use Rattle.codegen.proofs.lower_expression.lower_property.Reads as lower-property
-use Rattle.codegen.proofs.lower_expression.lower_property.Kinds as lower-property-kinds
-use Rattle.codegen.proofs.lower_expression.lower_tested.Reads as lower-tested
-use Rattle.codegen.proofs.lower_expression.lower_tested.Kinds as lower-tested-kinds
+use Rattle.codegen.proofs.lower_expression.property.Reads as lower-property
+use Rattle.codegen.proofs.lower_expression.property.Kinds as lower-property-kinds
+use Rattle.codegen.proofs.lower_expression.test.Reads as lower-tested
+use Rattle.codegen.proofs.lower_expression.test.Kinds as lower-tested-kinds
 use Rattle.codegen.proofs.lower_expression.lower_unary.Reads as lower-unary
 use Rattle.codegen.proofs.lower_expression.lower_unary.Kinds as lower-unary-kinds
 

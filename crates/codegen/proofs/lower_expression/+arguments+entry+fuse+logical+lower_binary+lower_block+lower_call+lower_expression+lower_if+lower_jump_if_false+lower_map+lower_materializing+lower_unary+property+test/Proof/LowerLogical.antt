@@ -10,9 +10,11 @@ use Rattle.lowering.specs.Tree.{treeOf}
 use Rattle.steps.specs.Answers.{any, registerAt, operandAt, settled}
 use Rattle.steps.proofs.Chains.{then-by, stop-by, then-emitted, stop-emitted}
 use Rattle.codegen.proofs.Walk.{then-patched, ended}
-use Rattle.codegen.proofs.Branches.{register-read, seen-below, walked-below, then-branch, stop-branch, by-answer, lowerLogical, logical-below, logical-of, jump-words}
-use Rattle.codegen.proofs.lower_expression.lower_logical.Reads as lower-logical
-use Rattle.codegen.proofs.lower_expression.+lower_arguments+lower_binary+lower_block+lower_call+lower_entry+lower_expression+lower_fused+lower_if+lower_jump_if_false+lower_logical+lower_map+lower_materializing+lower_property+lower_tested+lower_unary.Lts-lower_logical as lower-logical-lts
+use Rattle.codegen.proofs.Children.{child-seen}
+use Rattle.codegen.proofs.Operands.{register-word, walk-requires}
+use Rattle.codegen.proofs.Branches.{then-branch, stop-branch, by-answer, lowerLogical, logical-below, logical-of, jump-words}
+use Rattle.codegen.proofs.lower_expression.logical.Reads as lower-logical
+use Rattle.codegen.proofs.lower_expression.+arguments+entry+fuse+logical+lower_binary+lower_block+lower_call+lower_expression+lower_if+lower_jump_if_false+lower_map+lower_materializing+lower_unary+property+test.Lts-logical as lower-logical-lts
 use Rattle.codegen.proofs.lower_expression.lower_materializing.Reads as lower-materializing
 use Rattle.codegen.proofs.lower_expression.logical_jump.Reads as logical-jump-reads
 use Rattle.codegen.proofs.flat.peek_into.Reads as peek-into-reads
@@ -26,7 +28,7 @@ use Rattle.steps.proofs.answer.value_of.Reads as value-of-reads
 use Rattle.steps.proofs.step.destination.Reads as destination-reads
 use Rattle.steps.proofs.step.patch_to_next.Reads as patch-to-next-reads
 use Rattle.words.proofs.counted.Reads as counted-reads
-use Rattle.codegen.proofs.lower_expression.+lower_arguments+lower_binary+lower_block+lower_call+lower_entry+lower_expression+lower_fused+lower_if+lower_jump_if_false+lower_logical+lower_map+lower_materializing+lower_property+lower_tested+lower_unary.Proof.Measures.{lower-logical-at, lower-materializing-below}
+use Rattle.codegen.proofs.lower_expression.+arguments+entry+fuse+logical+lower_binary+lower_block+lower_call+lower_expression+lower_if+lower_jump_if_false+lower_map+lower_materializing+lower_unary+property+test.Proof.Measures.{lower-logical-at, lower-materializing-below}
 
 abbrev pub calls : ℕ → lower-logical-lts.Claims
 calls t = (node-word-reads.Asked, node-word-reads.Learnt, destination-reads.Asked, destination-reads.Learnt, is-refusal-reads.Asked, is-refusal-reads.Learnt, value-of-reads.Asked, value-of-reads.Learnt, peek-into-reads.Asked, peek-into-reads.Learnt, lower-materializing-below t, lower-materializing.Post, logical-jump-reads.Asked, logical-jump-reads.Learnt, reg-of-reads.Asked, reg-of-reads.Learnt, emit-instruction-reads.Asked, emit-instruction-reads.Learnt, refused-reads.Asked, refused-reads.Learnt, counted-reads.Asked, counted-reads.Learnt, patch-to-next-reads.Asked, patch-to-next-reads.Learnt, answered-reads.Asked, answered-reads.Learnt)
@@ -61,7 +63,7 @@ from-end t c =
 few : (t : ℕ) (c : lower-logical-lts.After-value-of (calls t) (lower-logical-at t) lower-logical.Post) → c .value-of .result < any
 few t c =
     let at-asked = c .before .before in
-    register-read (at-asked .is-refusal .ensures) (c .before .if1 .left) (c .value-of .ensures) (at-asked .before .destination .ensures .1 (start t c .pre .1 .0 .1))
+    register-word _ (at-asked .is-refusal .ensures) (c .before .if1 .left) (c .value-of .ensures) (at-asked .before .destination .ensures .1 (start t c .pre .1 .0 .1))
 
 -- both sides are lower nodes
 below : (t : ℕ) (c : lower-logical-lts.After-value-of (calls t) (lower-logical-at t) lower-logical.Post) →
@@ -105,14 +107,14 @@ returns t c =
 peek-into-requires : (t : ℕ) → lower-logical-lts.Need-peek-into-requires (calls t) (lower-logical-at t) lower-logical.Post
 peek-into-requires t c κs =
     let at-value = c .before .before .before in
-    (seen-below _ _ _ (start t at-value .pre .1 .0 .0) (below t at-value .0), few t at-value)
+    (child-seen _ _ _ _ _ (start t at-value .pre .1 .0 .0) (below t at-value .0), few t at-value)
 
 lower-materializing-requires : (t : ℕ) → lower-logical-lts.Need-lower-materializing-requires (calls t) (lower-logical-at t) lower-logical.Post
 lower-materializing-requires t c κs =
     let at-peeked = c .before .before .before .before .before .before .before in
     let at-value = at-peeked .before .before .before .before in
     let at-start = start t at-value in
-    walked-below _ _ _ (at-start .pre .1 .0 .0) _ (below t at-value .0) (λ h. at-peeked .peek-into .ensures .1 .0 h .1 .0) (omega (arith, few t at-value)) (omega (arith, at-start .pre .0))
+    walk-requires _ _ _ _ _ _ (at-start .pre .1 .0 .0) (below t at-value .0) (omega (arith, at-start .pre .0)) (omega (arith, few t at-value)) (λ h. at-peeked .peek-into .ensures .1 .0 h .1 .0)
 
 returns-2 : (t : ℕ) → lower-logical-lts.Need-returns-2 (calls t) (lower-logical-at t) lower-logical.Post
 unfolding lowerLogical
@@ -161,7 +163,7 @@ peek-into-requires-2 : (t : ℕ) → lower-logical-lts.Need-peek-into-requires-2
 peek-into-requires-2 t c κs =
     let at-emitted = c .before .before .before .before .before .before in
     let at-value = from-left t (from-jump t at-emitted) in
-    (seen-below _ _ _ (start t at-value .pre .1 .0 .0) (below t at-value .1), few t at-value)
+    (child-seen _ _ _ _ _ (start t at-value .pre .1 .0 .0) (below t at-value .1), few t at-value)
 
 lower-materializing-requires-2 : (t : ℕ) → lower-logical-lts.Need-lower-materializing-requires-2 (calls t) (lower-logical-at t) lower-logical.Post
 lower-materializing-requires-2 t c κs =
@@ -169,7 +171,7 @@ lower-materializing-requires-2 t c κs =
     let at-emitted = at-peeked .before .before .before .before .before .before .before in
     let at-value = from-left t (from-jump t at-emitted) in
     let at-start = start t at-value in
-    walked-below _ _ _ (at-start .pre .1 .0 .0) _ (below t at-value .1) (λ h. at-peeked .peek-into2 .ensures .1 .0 h .1 .0) (omega (arith, few t at-value)) (omega (arith, at-start .pre .0))
+    walk-requires _ _ _ _ _ _ (at-start .pre .1 .0 .0) (below t at-value .1) (omega (arith, at-start .pre .0)) (omega (arith, few t at-value)) (λ h. at-peeked .peek-into2 .ensures .1 .0 h .1 .0)
 
 returns-4 : (t : ℕ) → lower-logical-lts.Need-returns-4 (calls t) (lower-logical-at t) lower-logical.Post
 unfolding lowerLogical

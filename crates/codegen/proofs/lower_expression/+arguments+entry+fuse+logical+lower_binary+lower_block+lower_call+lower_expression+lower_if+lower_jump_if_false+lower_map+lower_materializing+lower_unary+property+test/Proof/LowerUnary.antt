@@ -14,7 +14,7 @@ use Rattle.codegen.proofs.lower_expression.lower_materializing.Reads as
 use Rattle.codegen.proofs.lower_expression.lower_unary.Reads as lower-unary
 use Rattle.codegen.proofs.lower_expression.only_opcode.Reads as only-opcode-reads
 use Rattle.codegen.proofs.lower_expression.only_operand.Reads as only-operand-reads
-use Rattle.codegen.proofs.lower_expression.+lower_arguments+lower_binary+lower_block+lower_call+lower_entry+lower_expression+lower_fused+lower_if+lower_jump_if_false+lower_logical+lower_map+lower_materializing+lower_property+lower_tested+lower_unary.Lts-lower_unary as lower-unary-lts
+use Rattle.codegen.proofs.lower_expression.+arguments+entry+fuse+logical+lower_binary+lower_block+lower_call+lower_expression+lower_if+lower_jump_if_false+lower_map+lower_materializing+lower_unary+property+test.Lts-lower_unary as lower-unary-lts
 use Rattle.environment.proofs.RegisterSet.give_back.Reads as give-back-reads
 use Rattle.runtime.proofs.function.emit_instruction.Reads as emit-instruction-reads
 use Rattle.steps.proofs.answer.answered.Reads as answered-reads
@@ -24,7 +24,7 @@ use Rattle.steps.proofs.answer.refused.Reads as refused-reads
 use Rattle.steps.proofs.answer.value_of.Reads as value-of-reads
 use Rattle.steps.proofs.step.destination.Reads as destination-reads
 use Rattle.words.proofs.counted.Reads as counted-reads
-use Rattle.codegen.proofs.lower_expression.+lower_arguments+lower_binary+lower_block+lower_call+lower_entry+lower_expression+lower_fused+lower_if+lower_jump_if_false+lower_logical+lower_map+lower_materializing+lower_property+lower_tested+lower_unary.Proof.Measures.{lower-unary-at, lower-materializing-below}
+use Rattle.codegen.proofs.lower_expression.+arguments+entry+fuse+logical+lower_binary+lower_block+lower_call+lower_expression+lower_if+lower_jump_if_false+lower_map+lower_materializing+lower_unary+property+test.Proof.Measures.{lower-unary-at, lower-materializing-below}
 
 abbrev pub calls : ℕ → lower-unary-lts.Claims
 calls t = (only-operand-reads.Asked, only-operand-reads.Learnt, destination-reads.Asked, destination-reads.Learnt, is-refusal-reads.Asked, is-refusal-reads.Learnt, value-of-reads.Asked, value-of-reads.Learnt, peek-reads.Asked, peek-reads.Learnt, lower-materializing-below t, lower-materializing.Post, only-opcode-reads.Asked, only-opcode-reads.Learnt, reg-of-reads.Asked, reg-of-reads.Learnt, emit-instruction-reads.Asked, emit-instruction-reads.Learnt, refused-reads.Asked, refused-reads.Learnt, counted-reads.Asked, counted-reads.Learnt, give-back-reads.Asked, give-back-reads.Learnt, answered-reads.Asked, answered-reads.Learnt)

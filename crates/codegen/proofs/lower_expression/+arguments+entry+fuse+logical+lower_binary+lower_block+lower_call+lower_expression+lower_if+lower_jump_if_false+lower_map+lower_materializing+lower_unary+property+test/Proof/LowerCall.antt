@@ -9,13 +9,15 @@ use Rattle.diagnostics.specs.declared.Refusal.{Refusal}
 use Rattle.runtime.specs.Instruction.{wordsOf}
 use Rattle.lowering.specs.Tree.{treeOf}
 use Rattle.lowering.specs.Lower.{lowerNode}
-use Rattle.steps.specs.Answers.{any, registerAt, unitAt, operandAt, settled}
+use Rattle.steps.specs.Answers.{registerAt, unitAt, operandAt, settled}
 use Rattle.steps.proofs.Chains.{then-by, stop-by, then-emitted, stop-emitted}
 use Rattle.codegen.proofs.Walk.{ended}
-use Rattle.codegen.proofs.Branches.{register-read, seen-below, walked-below, register-of, by-answer, then-given-back, fields, call-below, call-of}
+use Rattle.codegen.proofs.Children.{child-seen, child-asked}
+use Rattle.codegen.proofs.Operands.{register-word, register-of}
+use Rattle.codegen.proofs.Branches.{by-answer, then-given-back, fields, call-below, call-of}
 use Rattle.codegen.proofs.lower_expression.lower_call.Reads as lower-call
-use Rattle.codegen.proofs.lower_expression.+lower_arguments+lower_binary+lower_block+lower_call+lower_entry+lower_expression+lower_fused+lower_if+lower_jump_if_false+lower_logical+lower_map+lower_materializing+lower_property+lower_tested+lower_unary.Lts-lower_call as lower-call-lts
-use Rattle.codegen.proofs.lower_expression.lower_arguments.Reads as lower-arguments
+use Rattle.codegen.proofs.lower_expression.+arguments+entry+fuse+logical+lower_binary+lower_block+lower_call+lower_expression+lower_if+lower_jump_if_false+lower_map+lower_materializing+lower_unary+property+test.Lts-lower_call as lower-call-lts
+use Rattle.codegen.proofs.lower_expression.arguments.Reads as lower-arguments
 use Rattle.codegen.proofs.lower_expression.lower_materializing.Reads as lower-materializing
 use Rattle.codegen.proofs.flat.peek.Reads as peek-reads
 use Rattle.codegen.proofs.read.node_word.Reads as node-word-reads
@@ -28,18 +30,18 @@ use Rattle.steps.proofs.answer.refused.Reads as refused-reads
 use Rattle.steps.proofs.answer.value_of.Reads as value-of-reads
 use Rattle.steps.proofs.step.destination.Reads as destination-reads
 use Rattle.words.proofs.counted.Reads as counted-reads
-use Rattle.codegen.proofs.lower_expression.+lower_arguments+lower_binary+lower_block+lower_call+lower_entry+lower_expression+lower_fused+lower_if+lower_jump_if_false+lower_logical+lower_map+lower_materializing+lower_property+lower_tested+lower_unary.Proof.Measures.{lower-call-at, lower-arguments-below, lower-materializing-below}
+use Rattle.codegen.proofs.lower_expression.+arguments+entry+fuse+logical+lower_binary+lower_block+lower_call+lower_expression+lower_if+lower_jump_if_false+lower_map+lower_materializing+lower_unary+property+test.Proof.Measures.{lower-call-at, lower-arguments-below, lower-materializing-below}
 
 abbrev pub calls : ℕ → lower-call-lts.Claims
 calls t = (node-word-reads.Asked, node-word-reads.Learnt, lower-arguments-below t, lower-arguments.Post, is-refusal-reads.Asked, is-refusal-reads.Learnt, destination-reads.Asked, destination-reads.Learnt, value-of-reads.Asked, value-of-reads.Learnt, peek-reads.Asked, peek-reads.Learnt, lower-materializing-below t, lower-materializing.Post, reg-of-reads.Asked, reg-of-reads.Learnt, emit-instruction-reads.Asked, emit-instruction-reads.Learnt, refused-reads.Asked, refused-reads.Learnt, counted-reads.Asked, counted-reads.Learnt, give-back-reads.Asked, give-back-reads.Learnt, answered-reads.Asked, answered-reads.Learnt)
 
 -- the places of the function, each from a later one: the start, the arguments, the destination, the callee
-abbrev start : (t : ℕ) → lower-call-lts.After-lower-arguments (calls t) (lower-call-at t) lower-call.Post → lower-call-lts.Start (calls t) (lower-call-at t) lower-call.Post
+abbrev start : (t : ℕ) → lower-call-lts.After-arguments (calls t) (lower-call-at t) lower-call.Post → lower-call-lts.Start (calls t) (lower-call-at t) lower-call.Post
 start t c =
     let at-words = c .before .before .before .before .before in
     at-words .before .before .before .before .before .before .before
 
-abbrev from-destination : (t : ℕ) → lower-call-lts.After-value-of (calls t) (lower-call-at t) lower-call.Post → lower-call-lts.After-lower-arguments (calls t) (lower-call-at t) lower-call.Post
+abbrev from-destination : (t : ℕ) → lower-call-lts.After-value-of (calls t) (lower-call-at t) lower-call.Post → lower-call-lts.After-arguments (calls t) (lower-call-at t) lower-call.Post
 from-destination t c =
     let at-asked = c .before .before .before .before .before .before in
     at-asked .before .before .before .before .before .before .before
@@ -55,7 +57,7 @@ from-call t c =
     at-asked .before .before .before .before .before .before .before
 
 -- the callee is a lower node
-below : (t : ℕ) (c : lower-call-lts.After-lower-arguments (calls t) (lower-call-at t) lower-call.Post) →
+below : (t : ℕ) (c : lower-call-lts.After-arguments (calls t) (lower-call-at t) lower-call.Post) →
     let at-words = c .before .before .before .before .before in
     at-words .node-word .result < start t c .args .node
 below t c =
@@ -69,12 +71,12 @@ callee-kept : (t : ℕ) (c : lower-call-lts.After-lower-materializing (calls t) 
     let left = c .lower-materializing .last .1 .1 .1 in
     (length (left .0) ≡ length (now (args .code))) × ((length (left .1 .0) ≡ length (now (args .constants))) × (length (left .1 .1 .0) ≡ length (now (args .marks))))
 callee-kept t c =
-    let arguments = from-destination t (from-callee t c) .lower-arguments .kept .1 .1 .1 in
+    let arguments = from-destination t (from-callee t c) .arguments .kept .1 .1 .1 in
     let peeked = c .before .before .before .before .before .before .before .before .peek .kept .1 .1 in
     let walked = c .lower-materializing .kept .1 .1 .1 in
     (walked .0 ∙ peeked .0 ∙ arguments .0, (walked .1 .0 ∙ peeked .1 .0 ∙ arguments .1 .0, walked .1 .1 .0 ∙ arguments .1 .1 .0))
 
-lower-arguments-requires : (t : ℕ) → lower-call-lts.Need-lower-arguments-requires (calls t) (lower-call-at t) lower-call.Post
+lower-arguments-requires : (t : ℕ) → lower-call-lts.Need-arguments-requires (calls t) (lower-call-at t) lower-call.Post
 lower-arguments-requires t c κs =
     let at-words = c .before .before .before .before in
     let at-start = at-words .before .before .before .before .before .before .before in
@@ -88,7 +90,7 @@ returns t c =
     let at-start = start t at-arguments in
     let checked = at-start .pre .1 .0 .0 .0 in
     call-of checked _ (at-start .pre .1 .1) (at-words .node-word .ensures) _ _
-    (stop-by _ _ unitAt _ _ _ (at-arguments .lower-arguments .ensures) (operandAt _) (c .before .is-refusal .ensures) (c .if1 .taken))
+    (stop-by _ _ unitAt _ _ _ (at-arguments .arguments .ensures) (operandAt _) (c .before .is-refusal .ensures) (c .if1 .taken))
 
 returns-2 : (t : ℕ) → lower-call-lts.Need-returns-2 (calls t) (lower-call-at t) lower-call.Post
 unfolding lowerNode
@@ -101,20 +103,20 @@ returns-2 t c =
     let checked = at-start .pre .1 .0 .0 .0 in
     let tree = treeOf (now (at-start .args .nodes)) (now (at-start .args .list)) (now (at-start .args .names)) in
     call-of checked _ (at-start .pre .1 .1) (at-words .node-word .ensures) _ _
-    (then-by tree _ unitAt _ _ _ (at-arguments .lower-arguments .ensures) (at-if1 .before .is-refusal .ensures) (at-if1 .if1 .left) refl
+    (then-by tree _ unitAt _ _ _ (at-arguments .arguments .ensures) (at-if1 .before .is-refusal .ensures) (at-if1 .if1 .left) refl
     (stop-by _ _ registerAt _ _ _ (at-asked .before .destination .ensures .0 _ _ _ _) (operandAt _) (at-asked .is-refusal2 .ensures) (c .if2 .taken)))
 
 peek-requires : (t : ℕ) → lower-call-lts.Need-peek-requires (calls t) (lower-call-at t) lower-call.Post
 peek-requires t c κs =
     let at-arguments = from-destination t (c .before .before .before) in
-    (seen-below _ _ _ (start t at-arguments .pre .1 .0 .0) (below t at-arguments), omega arith)
+    (child-seen _ _ _ _ _ (start t at-arguments .pre .1 .0 .0) (below t at-arguments), omega arith)
 
 lower-materializing-requires : (t : ℕ) → lower-call-lts.Need-lower-materializing-requires (calls t) (lower-call-at t) lower-call.Post
 lower-materializing-requires t c κs =
     let at-peeked = c .before .before .before .before .before .before .before in
     let at-arguments = from-destination t (at-peeked .before .before .before .before) in
     let at-start = start t at-arguments in
-    walked-below _ _ _ (at-start .pre .1 .0 .0) _ (below t at-arguments) (λ h. omega (arith, at-peeked .peek .ensures .1 .1 h .1 .0)) (omega arith) (omega (arith, at-start .pre .0))
+    child-asked _ _ _ _ _ (at-start .pre .1 .0 .0) (below t at-arguments) _ _ (omega (arith, at-start .pre .0)) (at-peeked .peek .ensures .1 .1)
 
 returns-3 : (t : ℕ) → lower-call-lts.Need-returns-3 (calls t) (lower-call-at t) lower-call.Post
 unfolding lowerNode
@@ -133,7 +135,7 @@ returns-3 t c =
     let walked = at-callee .lower-materializing .ensures in
     let callee = register-of checked (peeked .1 .1) (walked .0) (walked .1) (λ h. peeked .1 .0 _ _ checked h refl) in
     call-of checked _ (at-start .pre .1 .1) (at-words .node-word .ensures) _ _
-    (then-by tree _ unitAt _ _ _ (at-arguments .lower-arguments .ensures) (at-if1 .before .is-refusal .ensures) (at-if1 .if1 .left) refl
+    (then-by tree _ unitAt _ _ _ (at-arguments .arguments .ensures) (at-if1 .before .is-refusal .ensures) (at-if1 .if1 .left) refl
     (then-by tree _ registerAt _ _ _ (at-asked .before .destination .ensures .0 _ _ _ _) (at-asked .is-refusal2 .ensures) (at-value .before .if2 .left) (at-value .value-of .ensures)
     (stop-by _ _ registerAt _ _ _ callee (operandAt _) (c .before .is-refusal3 .ensures) (c .if3 .taken))))
 
@@ -158,7 +160,7 @@ returns-4 t c =
     let told = fields _ (at-emitted .before .before .reg-of .ensures) (at-emitted .before .reg-of2 .ensures) (at-arguments .before .before .before .before .node-word2 .ensures) in
     by-answer _ _ _ _ _ _ (c .refused .ensures)
     (call-of checked _ (at-start .pre .1 .1) (at-words .node-word .ensures) _ _
-    (then-by tree _ unitAt _ _ _ (at-arguments .lower-arguments .ensures) (at-if1 .before .is-refusal .ensures) (at-if1 .if1 .left) refl
+    (then-by tree _ unitAt _ _ _ (at-arguments .arguments .ensures) (at-if1 .before .is-refusal .ensures) (at-if1 .if1 .left) refl
     (then-by tree _ registerAt _ _ _ (at-asked .before .destination .ensures .0 _ _ _ _) (at-asked .is-refusal2 .ensures) (at-value .before .if2 .left) (at-value .value-of .ensures)
     (then-by tree _ registerAt _ _ _ callee (at-source .before .before .is-refusal3 .ensures) (at-source .before .if3 .left) (at-source .value-of2 .ensures)
     (stop-emitted _ _ _ _ _ told (at-emitted .emit-instruction .ensures .0) (operandAt _) (c .before .if4 .taken))))))
@@ -183,10 +185,10 @@ returns-5 t c =
     let walked = at-callee .lower-materializing .ensures in
     let callee = register-of checked (peeked .1 .1) (walked .0) (walked .1) (λ h. peeked .1 .0 _ _ checked h refl) in
     let told = fields _ (at-emitted .before .before .reg-of .ensures) (at-emitted .before .reg-of2 .ensures) (at-arguments .before .before .before .before .node-word2 .ensures) in
-    let few = register-read (at-asked .is-refusal2 .ensures) (at-value .before .if2 .left) (at-value .value-of .ensures) (at-asked .before .destination .ensures .1 (at-start .pre .1 .0 .1)) in
+    let few = register-word _ (at-asked .is-refusal2 .ensures) (at-value .before .if2 .left) (at-value .value-of .ensures) (at-asked .before .destination .ensures .1 (at-start .pre .1 .0 .1)) in
     by-answer _ _ _ _ _ _ (c .answered .ensures)
     (call-of checked _ (at-start .pre .1 .1) (at-words .node-word .ensures) _ _
-    (then-by tree _ unitAt _ _ _ (at-arguments .lower-arguments .ensures) (at-if1 .before .is-refusal .ensures) (at-if1 .if1 .left) refl
+    (then-by tree _ unitAt _ _ _ (at-arguments .arguments .ensures) (at-if1 .before .is-refusal .ensures) (at-if1 .if1 .left) refl
     (then-by tree _ registerAt _ _ _ (at-asked .before .destination .ensures .0 _ _ _ _) (at-asked .is-refusal2 .ensures) (at-value .before .if2 .left) (at-value .value-of .ensures)
     (then-by tree _ registerAt _ _ _ callee (at-source .before .before .is-refusal3 .ensures) (at-source .before .if3 .left) (at-source .value-of2 .ensures)
     (then-emitted tree _ _ _ _ told (at-emitted .emit-instruction .ensures .0) (at-counted .before .if4 .left) (at-counted .counted .ensures Refusal.Code)

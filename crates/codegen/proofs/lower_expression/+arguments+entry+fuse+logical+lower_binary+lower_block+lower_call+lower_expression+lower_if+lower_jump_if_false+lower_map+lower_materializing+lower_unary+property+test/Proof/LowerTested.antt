@@ -18,7 +18,7 @@ use Rattle.steps.proofs.Words.{destOf-any}
 use Rattle.steps.proofs.Chains.{then-by, stop-by, then-emitted, stop-emitted, last, seen-word}
 use Rattle.codegen.proofs.Conditions.{literal-value, answered-value, at-meeting}
 use Rattle.codegen.proofs.lower_expression.lower_expression.Reads as lower-expression
-use Rattle.codegen.proofs.lower_expression.lower_tested.Reads as lower-tested
+use Rattle.codegen.proofs.lower_expression.test.Reads as lower-tested
 use Rattle.codegen.proofs.read.literal.Reads as literal-reads
 use Rattle.codegen.proofs.read.node_word.Reads as node-word-reads
 use Rattle.operators.proofs.jump_if.Reads as jump-if-reads
@@ -30,8 +30,8 @@ use Rattle.steps.proofs.answer.reg_of.Reads as reg-of-reads
 use Rattle.steps.proofs.answer.value_of.Reads as value-of-reads
 use Rattle.steps.proofs.step.load_constant.Reads as load-constant-reads
 use Rattle.words.proofs.counted.Reads as counted-reads
-use Rattle.codegen.proofs.lower_expression.+lower_arguments+lower_binary+lower_block+lower_call+lower_entry+lower_expression+lower_fused+lower_if+lower_jump_if_false+lower_logical+lower_map+lower_materializing+lower_property+lower_tested+lower_unary.Lts-lower_tested as lts
-use Rattle.codegen.proofs.lower_expression.+lower_arguments+lower_binary+lower_block+lower_call+lower_entry+lower_expression+lower_fused+lower_if+lower_jump_if_false+lower_logical+lower_map+lower_materializing+lower_property+lower_tested+lower_unary.Proof.Measures.{lower-expression-below, lower-tested-at}
+use Rattle.codegen.proofs.lower_expression.+arguments+entry+fuse+logical+lower_binary+lower_block+lower_call+lower_expression+lower_if+lower_jump_if_false+lower_map+lower_materializing+lower_unary+property+test.Lts-test as lts
+use Rattle.codegen.proofs.lower_expression.+arguments+entry+fuse+logical+lower_binary+lower_block+lower_call+lower_expression+lower_if+lower_jump_if_false+lower_map+lower_materializing+lower_unary+property+test.Proof.Measures.{lower-expression-below, lower-tested-at}
 
 abbrev calls : ℕ → lts.Claims
 calls t = (node-word-reads.Asked, node-word-reads.Learnt, literal-reads.Asked, literal-reads.Learnt, load-constant-reads.Asked, load-constant-reads.Learnt, lower-expression-below t, lower-expression.Post, is-refusal-reads.Asked, is-refusal-reads.Learnt, value-of-reads.Asked, value-of-reads.Learnt, jump-if-reads.Asked, jump-if-reads.Learnt, reg-of-reads.Asked, reg-of-reads.Learnt, emit-instruction-reads.Asked, emit-instruction-reads.Learnt, refused-reads.Asked, refused-reads.Learnt, counted-reads.Asked, counted-reads.Learnt, answered-reads.Asked, answered-reads.Learnt)
