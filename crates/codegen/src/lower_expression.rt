@@ -70,7 +70,7 @@ use words::counted;
 use words::word;
 
 // A node as an expression, by its kind. A literal is LITERAL, and nothing is done. The arms that go deep are asked for first: the compiler inlines what it
-// takes for frequent (6 ns a node against one match in kaori's order).
+// takes for frequent.
 fn lower_expression(
     nodes: &[u8],
     list: &[u8],

@@ -117,7 +117,7 @@ unfoldable pub settled : {A : Type 0} → Outcome A → Outcome A
 settled (ends x m) = ends x m
 settled (stops e m) = stops e (settle m)
 
--- an answer beside what is left, as an outcome; `gives` reads the word. One-to-one where `gives` is.
+-- an answer beside what is left, as an outcome; `gives` reads the word. Words that the walk does not make may be seen alike.
 unfoldable pub seen : {A : Type 0} → Tree → (ℕ → A) → Made → ℕ → Outcome A
 seen t gives m a = cond (isRefusal a) (stops (errorAt t (refusalOf (numberOfRefusal a)) (valueOf a)) (settle m)) (ends (gives (valueOf a)) m)
 
