@@ -1,4 +1,4 @@
--- Law 1 of the program: what bytes at entry, numbers that come back and bytes at exit may say.
+-- Law 1 of the program, in bytes: what holds of the bytes at entry, the numbers that come back and the bytes at exit.
 use Prim.Native.Nat.{ℕ, _*_, _≤_, _<_}
 use mathlib.Core.Path.{_≡_}
 use mathlib.Core.List.{List}
@@ -16,7 +16,7 @@ Bytes s = (i : ℕ) → getD s i 0 < 256
 abbrev pub Words : List ℕ → Type 0
 Words ws = (i : ℕ) → getD ws i 0 < 4294967296
 
--- how many marks were made, which no number says
+-- how many marks were made; none of the eight numbers says it
 abbrev pub markCount : (nodes : List ℕ) (root mode : ℕ) (list names code constants marks : List ℕ) → ℕ
 markCount nodes root mode list names code constants marks = answers.markCount nodes root mode list names (words code) (words constants) (words marks)
 
@@ -43,6 +43,6 @@ module _ (nodes : List ℕ) (root mode : ℕ) (list names code constants marks :
     pub constants-fit : 12 * r .constants ≤ length constants
     pub marks-fit : 4 * markCount nodes root mode list names code constants marks ≤ length marks
 
--- the lifetimes of the six slices of `lower`, of which its contract asks nothing
+-- the lifetimes of the six slices of `lower`; its contract asks nothing of them
 abbrev pub Lifetimes : Type 0
 Lifetimes = List ℕ × (List ℕ × (List ℕ × (List ℕ × (List ℕ × (List ℕ × Unit {0})))))

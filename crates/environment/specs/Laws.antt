@@ -56,7 +56,7 @@ pub record Gives (s : RegisterSet) (r : ℕ) (t : RegisterSet) : Type 0 where
 
 -- "No register is ever given back twice": register r, which is not held, is given back to s all the same, which leaves t
 pub record GivesFree (s : RegisterSet) (r : ℕ) (t : RegisterSet) : Type 0 where
-  -- it is held now, though none took it: the set shows it
+  -- it is held now, though nothing took it: so the set shows a second give-back
   pub now-held : held t r ≡ true
   -- no other changes
   pub others : (j : ℕ) → j ≢ r → held t j ≡ held s j
@@ -65,7 +65,7 @@ pub record GivesFree (s : RegisterSet) (r : ℕ) (t : RegisterSet) : Type 0 wher
   -- there are as many words as before
   pub words : length (t .words) ≡ length (s .words)
 
--- "The last parameter of a name wins": register is that of the last of the first n names that is x
+-- "The last parameter of a name wins": the register of the last of the first n names that is x
 pub record Last (names : List ℕ) (n x : ℕ) (register : Register) : Type 0 where
   -- the index of the name
   pub index : ℕ

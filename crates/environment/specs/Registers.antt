@@ -18,7 +18,7 @@ free ws r = eqb (bit (getD ws (r / 64) 0) (r % 64)) 1
 unfoldable pub takeOut : List ℕ → ℕ → List ℕ
 takeOut ws r = set ws (r / 64) (clear (getD ws (r / 64) 0) (r % 64))
 
--- register r turned over: its bit is set where it was clear, as it is of a held register
+-- register r turned over: its bit is set if it was clear, which says held, and cleared if it was set
 unfoldable pub putBack : List ℕ → ℕ → List ℕ
 putBack ws r = set ws (r / 64) (flip (getD ws (r / 64) 0) (r % 64))
 
@@ -38,7 +38,7 @@ allFree = record { words = 18446744073709551615 ∷ 18446744073709551615 ∷ 184
 unfoldable pub held : RegisterSet → ℕ → Bool
 held s r = ltb r 256 && not (free (s .words) r)
 
--- the set without register r among the free: "frame size is 1 + the highest taken"
+-- the set once register r is taken: "frame size is 1 + the highest taken"
 unfoldable pub without : RegisterSet → ℕ → RegisterSet
 without s r = record { words = takeOut (s .words) r; «frame_size» = max (s .«frame_size») (r + 1) }
 
@@ -49,6 +49,7 @@ taken s =
     (record { set = without s (smallestFree (s .words)); place = Place.At (smallestFree (s .words)) })
     (record { set = s; place = Place.Refused Refusal.Registers })
 
--- register r, which is held, given back is free, and the frame size stays. One that is free is held afterwards: the set shows it.
+-- register r given back: it is free if it was held, and the frame size stays. If it was free it is held afterwards, so that a second give-back shows. A number
+-- past 255 changes nothing.
 unfoldable pub givenBack : RegisterSet → ℕ → RegisterSet
 givenBack s r = cond (ltb r 256) (record { words = putBack (s .words) r; «frame_size» = s .«frame_size» }) s

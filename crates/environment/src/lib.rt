@@ -20,7 +20,7 @@ const BITS: u32 = 64;
 // A word of free registers: every bit is set.
 const ALL_FREE: u64 = 0xffff_ffff_ffff_ffff;
 
-// A temporary is given back when its value was read; a local is a parameter or an argument's destination, and never is.
+// A temporary is given back once its value has been read. A local, which is a parameter or the destination of an argument, never is.
 pub enum Register {
     Temp(u32),
     Local(u32),

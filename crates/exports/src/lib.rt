@@ -9,7 +9,7 @@ use codegen::numbers_of;
 use lower_ast::patch_jump;
 use words::put_words;
 
-// `lower`, with the eight numbers in `result`, a word each: those for which it has no place are left out, and no byte past the eighth word changes.
+// `lower`, with the eight numbers in `result`, a word each: those for which it has no room are left out, and no byte past the eighth word changes.
 #[no_mangle]
 pub extern "C" fn sewurogi_lower(
     nodes: &[u8],

@@ -22,5 +22,5 @@ pub record Prints (bytes out out′ : List ℕ) (size : ℕ) : Type 0 where
   pub begins : take size out′ ≡ take (length out) bytes
   -- all of it is there, if the buffer holds the longest listing
   pub whole : longestListing ≤ length out → take size out′ ≡ bytes
-  -- what stands behind it is as it was
+  -- what stands after it is as it was
   pub behind : drop size out′ ≡ drop size out

@@ -77,7 +77,7 @@ const LISTING_BUFFER: usize = RESULT_LINE
     + INSTRUCTION_LINE * MAX_INSTRUCTIONS
     + CONSTANT_LINE * MAX_CONSTANTS;
 
-// Zeros, for a text. What is read into it prints what the whole text does, however long that is: a text is cut only behind the longest good one.
+// Zeros, for a text. What is read into it prints what the whole text does, however long that is: a text is cut only after the length of the longest good one.
 pub fn text_buffer() -> [u8; TEXT_BUFFER]
     ensures length { λ r. ⌜ longestText + 1 ≡ length r ⌝ }
     ensures zeros { λ r. ⌜ r ≡ replicate (longestText + 1) 0 ⌝ }
@@ -85,7 +85,7 @@ pub fn text_buffer() -> [u8; TEXT_BUFFER]
     [0; TEXT_BUFFER]
 }
 
-// Zeros, for a listing: every listing has place.
+// Zeros, for a listing: there is room for every listing.
 pub fn listing_buffer() -> [u8; LISTING_BUFFER]
     ensures length { λ r. ⌜ longestListing ≡ length r ⌝ }
     ensures zeros { λ r. ⌜ r ≡ replicate longestListing 0 ⌝ }

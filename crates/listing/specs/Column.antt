@@ -44,7 +44,7 @@ readBytes zero c s = c
 readBytes (suc n) c [] = Column.Bad
 readBytes (suc n) c (b ∷ s) = readBytes n (step c b) s
 
--- the column at the start of s: a number, or no column (which spaces alone are not)
+-- the column at the start of s: a number, or `Bad`; spaces alone are no column
 unfoldable pub readColumn : List ℕ → Column
 readColumn s = readBytes columnBytes Column.Blank s
 

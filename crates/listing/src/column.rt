@@ -1,4 +1,4 @@
-// Columns of 11 bytes: a number, right-justified behind spaces.
+// Columns of 11 bytes: spaces, then a number, right-justified.
 ghost use mathlib.Core.Path.{_≡_};
 ghost use lib.ListN.{drop, set};
 ghost use lib.Seq.{sets};
@@ -89,7 +89,7 @@ pub fn read_column(s: &[u8], at: usize) -> Column
     c
 }
 
-// Makes the byte at i what is given; past the end nothing changes.
+// Sets the byte at i to b; past the end nothing changes.
 pub fn put(s: &mut [u8], i: usize, b: u8)
     ensures { λ _. ⌜ now (s .exit) ≡ set (now (s .entry)) i b ⌝ }
 {

@@ -5,8 +5,7 @@ use mathlib.Core.List.{List, _++_}
 use Rattle.words.specs.Words.{words, tail, bytesOf}
 use Rattle.lowering.specs.Answers.{OneWord}
 
--- "Only the offset word changes": with 0 the bytes are those of words of which one is other than at entry, the offset of a jump; the bytes past the
--- last whole word stay
+-- "Only the offset word changes": with 0 one word differs from what it was at entry, the offset of a jump, and the bytes past the last whole word are as at entry
 pub record OneOffset (entry : List ℕ) (count index offset : ℕ) (exit : List ℕ) : Type 0 where
   pub left : List ℕ
   pub bytes : exit ≡ bytesOf left ++ tail entry

@@ -23,13 +23,13 @@ use words::capacity;
 use words::put_word;
 use words::word;
 
-// Every argument patched, or the first that is refused, with the place of its instruction.
+// Every argument is patched; or one is refused, the first, with the place of its instruction.
 pub enum Patched {
     Done,
     Refused { refusal: Refusal, place: u32 },
 }
 
-// Makes the offset of the jump at `place` what is given.
+// Sets the offset of the jump at `place`.
 pub fn put_offset(code: &mut [u8], place: u32, offset: u32)
     ensures words { λ _. ⌜ words (now (code .exit)) ≡ withOffset (words (now (code .entry))) place offset ⌝ }
     ensures tail { λ _. ⌜ tail (now (code .exit)) ≡ tail (now (code .entry)) ⌝ }
@@ -74,7 +74,8 @@ pub fn patch_jump(code: &mut [u8], count: u32, index: u32, offset: u32) -> u32
     }
 }
 
-// Marks the last of `instructions`, behind the first `count` marks: the mark's place, or FULL, also where there is no instruction.
+// Marks the last of `instructions` instructions: its place is put after the first `count` marks. The answer is the place of the mark, or FULL; FULL also if there is
+// no instruction.
 pub fn mark_argument(marks: &mut [u8], count: u32, instructions: u32) -> u32
     ensures words { λ r. ⌜ buffer (words (now (marks .exit))) (appended count r (cond (eqb instructions 0) Refusal.Unmarked Refusal.Marks))
         ≡ markArgument (words (now (marks .entry))) count instructions ⌝ }

@@ -28,6 +28,7 @@ module _ (nodes : List ℕ) (root mode : ℕ) (list names code constants marks :
   abbrev pub start : Made
   start = begin code constants marks 0 (length (words names))
 
+  -- "Refusals 1 to 8 [..] write nothing": every word is as at entry, and both counts are 0
   pub record Untouched (l : Lowered) : Type 0 where
     pub code-same : l .code ≡ code
     pub constants-same : l .constants ≡ constants
@@ -35,6 +36,7 @@ module _ (nodes : List ℕ) (root mode : ℕ) (list names code constants marks :
     pub no-instructions : l .result .instructions ≡ 0
     pub no-constants : l .result .constants ≡ 0
 
+  -- "9 to 18 leave what was made up to there": the walk stops with a refusal, under its own condition, and what comes back and what is left are what it had made
   pub record Stopped (l : Lowered) : Type 0 where
     pub error : Error
     pub made : Made
@@ -43,14 +45,13 @@ module _ (nodes : List ℕ) (root mode : ℕ) (list names code constants marks :
     pub own : Own (treeOf nodes list names) root error made
     pub shown : l ≡ leaves (result (refusalNumber (error .refusal)) (error .place) (error .start) (error .end) (instructionsOf made) (constantsOf made) 0 0) made
 
-  -- Exactly so: number, place and span come back where, and only where, every question before the walk is answered yes and the walk stops with that
-  -- refusal.
+  -- refusal e is due: every question before the walk is answered yes, and the walk stops with e
   pub record StopsWith (e : Error) : Type 0 where
     pub yes : AllYes nodes list names mode root
     pub made : Made
     pub is : lowerRoot freeTemp (treeOf nodes list names) mode root start ≡ stops e made
 
-  -- the four numbers of a refusal
+  -- the result has the four numbers of refusal e
   pub record Tells (r : Result) (e : Error) : Type 0 where
     pub number : r .number ≡ refusalNumber (e .refusal)
     pub place : r .place ≡ e .place
@@ -84,6 +85,7 @@ module _ (nodes : List ℕ) (root mode : ℕ) (list names code constants marks :
   abbrev pub markCount : ℕ
   markCount = marksMade (questions nodes list names mode root)
 
+  -- "and nothing beyond": every word past the counts is as at entry, and the counts fit the buffers
   pub record Within (l : Lowered) : Type 0 where
     pub code-length : length (l .code) ≡ length code
     pub constants-length : length (l .constants) ≡ length constants

@@ -36,13 +36,13 @@ pub record CheckedNode (t : Tree) (i : ℕ) : Type 0 where
   pub list : asked6 t i ≡ true
   pub order : question7 t i ≡ true
 
--- every node is whole, and answered yes
+-- every node is whole, and its questions are answered yes
 pub record Checked (t : Tree) : Type 0 where
   -- no word stands past the last whole node
   pub whole : length (t .nodes) % nodeWidth ≡ 0
   pub each : (i : ℕ) → i < capacity nodeWidth (t .nodes) → CheckedNode t i
 
--- "For each node, [..] 3 [to] 7": the first of them that node i answers no, with its refusal
+-- "For each node, [..] 3 [to] 7": the first of them that is answered no for node i, with its refusal
 pub data NodeNo (t : Tree) (i : ℕ) : Refusal → Type 0 where
   no-kind : asked3 t i ≡ false → NodeNo t i Refusal.Kind
   no-unused : asked3 t i ≡ true → asked4 t i ≡ false → NodeNo t i Refusal.Unused
@@ -61,8 +61,8 @@ pub record AllYes (nodes list names : List ℕ) (mode root : ℕ) : Type 0 where
   pub checked : Checked (treeOf nodes list names)
   pub parameters : question8 (length (words names)) ≡ true
 
--- The first question answered no: the refusal and the place of a question answered no, with every
--- question before it answered yes: 1, 2, one of 3 to 7 "for each node, lowest first, place = node", and 8
+-- The first question answered no, by its refusal and place; every question before it is answered yes. In order: 1, 2, then 3 to 7 "for each node, lowest first,
+-- place = node", then 8
 pub data FirstNo (nodes list names : List ℕ) (mode root : ℕ) : Refusal → ℕ → Type 0 where
   no-size : question1 nodes list names ≡ false → FirstNo nodes list names mode root Refusal.Size 0
   no-root : question1 nodes list names ≡ true → question2 mode root (nodesIn nodes) ≡ false → FirstNo nodes list names mode root Refusal.Root 0

@@ -17,8 +17,8 @@ abbrev pub modeOf : Bool → ℕ
 modeOf false = 1
 modeOf true = 2
 
--- Any operators that keep the hypotheses, any parameters, and any registers that start with them. The order premise is asked of the ifs inside;
--- of the condition's own two values as at an if where it jumps on false, and not where it jumps on true.
+-- Any operators that keep the hypotheses, any parameters, and any registers that start with them. The order premise is asked of the ifs inside
+-- the tree; of the root's own two values it is asked where the jump is on false, as at an if, and not where it is on true.
 pub record Entry (sense : Bool) (t : Tree) (root : ℕ) : Type 1 where
   pub operators : Operators
   pub hypotheses : Hypotheses operators
@@ -35,7 +35,7 @@ pub record Goal (jump : ℕ) : Type 0 where
   pub reached : target jump offset ≡ some place
 
 module _ (sense : Bool) (t : Tree) (root : ℕ) (x : Lowered) where
-  -- the place behind the code
+  -- the place after the code
   abbrev pub behind : ℕ
   behind = x .result .instructions
 
@@ -54,7 +54,7 @@ module _ (sense : Bool) (t : Tree) (root : ℕ) (x : Lowered) where
         after (s .operators) (constantAt (s .operators) (x .constants) (x .result .constants)) (fetch (patchedTo g .code) behind) n
         (at 0 (s .registers))
 
-    -- where a run is left: at the goal where the tree's value tests as `sense`, behind the code where it tests the other way; with the failure, ended
+    -- where a run is left: at the goal where the tree's value tests as `sense`, after the code where it tests the other way; ended, with the failure
     abbrev pub LeftBy : Worth (s .operators .Failure) Bool → Now (s .operators) → Type 0
     LeftBy (worth b) now = (R : Registers (s .operators)) × (now ≡ at (cond (Bool·beq b sense) (g .place) behind) R)
     LeftBy (fails y) now = now ≡ ended (failed y)
@@ -70,7 +70,7 @@ module _ (sense : Bool) (t : Tree) (root : ℕ) (x : Lowered) where
       pub once : (j k p q : ℕ) (P Q : Registers (s .operators)) → j < k → k < n → runTo j ≡ at p P → runTo k ≡ at q Q → p < q
       pub parameters : (k p : ℕ) (P : Registers (s .operators)) → k ≤ n → runTo k ≡ at p P → (r : ℕ) → r < length (t .names) → P r ≡ s .parameters r
 
-    -- "comes to the goal exactly when the tree's value tests false (true), to the place behind the code exactly when it tests the other way, and ends
+    -- "comes to the goal exactly when the tree's value tests false (true), to the place after the code exactly when it tests the other way, and ends
     -- with the tree's or the test's failure otherwise"; once and parameters at every step
     pub record Exactly : Type 0 where
       pub to-goal : (testOf s ≡ worth sense) ↔ ((n : ℕ) × (R : Registers (s .operators)) × (runTo n ≡ at (g .place) R))
@@ -85,7 +85,7 @@ module _ (sense : Bool) (t : Tree) (root : ℕ) (x : Lowered) where
     pub patchable : (g : Goal (x .result .place)) → patchedTo g .number ≡ 0
     -- whatever the goal, also one inside of the code
     pub runs : (g : Goal (x .result .place)) (s : Entry sense t root) → (n : ℕ) × UpTo g s n
-    -- a goal past the place behind the code, so that the machine is at it nowhere else
+    -- for a goal past the place after the code, so that the machine cannot come to it in any other way
     pub exactly : (g : Goal (x .result .place)) (s : Entry sense t root) → behind < g .place → Exactly g s
     pub short : behind ≤ sizeAt t root + 1
     pub defined : (M : Operators) (values : ℕ → M .Value) → worthAt M t values root ≢ undefined

@@ -85,7 +85,7 @@ ruleRun x rest n =
 
 -- ---- one jump
 
--- what one jump leaves at place 0, behind it place 1
+-- what is left by a rule whose code is one jump, at place 0; the place after the code is 1
 abbrev pub alone : List ℕ → Lowered
 alone code = record { result = result 0 0 0 0 1 0 2 2; code = code; constants = []; marks = [] }
 

@@ -1,4 +1,4 @@
--- Nothing is cut: the fields of an instruction's words, and what each of them is below.
+-- Nothing is cut: what field each word of an instruction is, and the limit that it is below.
 use Prim.Native.Nat.{ℕ, _+_, _*_, _<_}
 use mathlib.Core.List.{List, [], _∷_}
 use lib.ListN.{getD}
@@ -12,7 +12,7 @@ pub data Field : Type 0 where
   offset : Field
   unused : Field
 
--- what a word is below
+-- the limit that a field is below
 abbrev pub limit : ℕ → Field → ℕ
 limit top reg = 256
 limit top index = top
@@ -20,7 +20,7 @@ limit top arguments = 256
 limit top offset = 2147483648
 limit top unused = 1
 
--- the three words behind the kind, by kind from 0 (Add) to 54 (CaptureValue). Lowering never makes 32, 34 to 37 and
+-- the three words after the kind, by kind from 0 (Add) to 54 (CaptureValue). Lowering never makes 32, 34 to 37 and
 -- 54; the row of 35 is narrower than the Rust's.
 abbrev pub fields : List (List Field)
 fields =

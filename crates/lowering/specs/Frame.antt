@@ -28,12 +28,12 @@ heldCount m = heldBelow (registersOf m) 256
 abbrev pub frameOf : Made → ℕ
 frameOf m = registersOf m .«frame_size»
 
--- a register taken where m is made, which leaves the set s
+-- register r is taken where m was made, which leaves the set s
 pub record Smallest (m : Made) (r : ℕ) (s : RegisterSet) : Type 0 where
   -- it is free, while every smaller one is held
   pub was-free : Free m r
   pub smaller-held : (j : ℕ) → j < r → Held m j
-  -- where it raises the frame size, exactly the registers below that are held now
+  -- if that raises the frame size, exactly the registers below the new one are held now
   pub raises : frameOf m < s .«frame_size» → (j : ℕ) → (j < s .«frame_size») ↔ (held s j ≡ true)
 
 module _ {t : Tree} {root : ℕ} where
@@ -64,7 +64,7 @@ module _ {t : Tree} {root : ℕ} where
   mostHeld (reads k a) = mostHeld a
   mostHeld (counts a) = mostHeld a
 
-  -- G holds at every give-back, of what was made and the register; T at every take, also of the set afterwards
+  -- G holds at every give-back, for what was made and the register; T holds at every take, for the set afterwards too
   module _ (G : Made → ℕ → Type 0) (T : Made → ℕ → RegisterSet → Type 0) where
     abbrev pub Every : {A : Type 0} {w : Walk A} {m : Made} {o : Outcome A} → Runs t root A w m o → Type 0
     Every (step (takes {m = m} {s = s} {r = r} k)) = T m r s
@@ -86,7 +86,7 @@ module _ {t : Tree} {root : ℕ} where
 module _ (nodes : List ℕ) (root mode : ℕ) (list names code constants marks : List ℕ) where
   -- Where lowering accepts: a run from the parameters' registers, which takes the smallest free register each time; the frame size is
   -- one more than the highest register taken, the parameters' among them (0 where none was), and it is the most held at one moment. (That none is given
-  -- back twice is `given-back-once`, in Came.)
+  -- back twice is `given-back-once`, in proofs/Walk/LowerRuns.)
   pub record Frames (l : Lowered) : Type 1 where
     pub answer : ℕ
     pub made : Made

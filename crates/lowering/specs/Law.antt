@@ -16,8 +16,8 @@ use Rattle.lowering.specs.Result.{Lowered, begin, lowerRoot, lower, resu
 use Rattle.lowering.specs.Meaning.{Operators, Hypotheses, Worth, worth, fails, undefined, worthAt, OrderPremise, Reaches, Plain, sizeAt}
 use Rattle.lowering.specs.Machine.{fetch, constantAt, returned, failed, lost, Registers, Now, at, ended, after}
 
--- A tree without calls and maps, of at most 256 parameters, that lowering accepts in value mode: from any words of the three buffers and from
--- any pool, of whose constants `pooled` are there already.
+-- A tree without calls and maps, of at most 256 parameters, that lowering accepts in value mode: from any words in the three buffers, and
+-- from any pool that has `pooled` constants already.
 pub record Accepted : Type 0 where
   pub tree : Tree
   pub root : ℕ
@@ -63,11 +63,11 @@ module _ (a : Accepted) (s : Setting a) where
   abbrev pub ran : ℕ → Now (s .operators)
   ran n = after (s .operators) (constantAt (s .operators) (s .pool) (s .pooled)) (fetch (s .code) (s .count)) n (at (s .base) (s .registers))
 
-  -- what the tree is worth
+  -- the value of the tree, or its failure
   abbrev pub treeWorth : Worth (s .operators .Failure) (s .operators .Value)
   treeWorth = worthAt (s .operators) (a .tree) (s .parameters) (a .root)
 
--- the machine has ended with what a tree is worth
+-- the machine has ended with the value of a tree, or with its failure
 abbrev pub EndsWith : (M : Operators) → Worth (M .Failure) (M .Value) → Now M → Type 0
 EndsWith M (worth v) now = now ≡ ended (returned v)
 EndsWith M (fails x) now = now ≡ ended (failed x)
@@ -78,7 +78,7 @@ EndsWith M undefined now = ⊥
 abbrev pub Runs : Type 1
 Runs = (a : Accepted) (s : Setting a) → (n : ℕ) × (n ≤ instructions a) × EndsWith (s .operators) (treeWorth a s) (ran a s n)
 
--- "exactly when", read both ways, of values and of failures; and it ends with neither at no step
+-- "exactly when", read both ways, of values and of failures; and at no step has the run ended with neither
 abbrev pub Exactly : Type 1
 Exactly = (a : Accepted) (s : Setting a) →
     ((v : s .operators .Value) → (treeWorth a s ≡ worth v) ↔ ((n : ℕ) × (ran a s n ≡ ended (returned v))))

@@ -1,4 +1,4 @@
--- "The meaning used by demand 3": what a tree without calls and maps is worth, over the arena, for any values, failures and operators.
+-- "The meaning used by demand 3": the value of a tree without calls and maps, over the arena, for any values, failures and operators.
 use Prim.Native.Nat.{ℕ, zero, suc, _+_}
 use mathlib.Core.Path.{_≡_}
 use mathlib.Core.List.{List, [], _∷_}
@@ -62,7 +62,7 @@ pub record Hypotheses (M : Operators) : Type 0 where
 abbrev pub Ordered : (M : Operators) → M .Value → M .Value → Type 0
 Ordered M a b = M .compare lessEqual b a ≡ opposite (M .compare less a b)
 
--- ---- what a node is worth
+-- ---- the value of a node
 
 -- a value, a failure, or undefined: an undeclared name and an else that is missing (no accepted tree reaches either), a call and a map
 pub data Worth (F A : Type 0) : Type 0 where
@@ -149,7 +149,7 @@ module _ (M : Operators) where
     nodeWorth W (Node.Map start count) = undefined
 
     -- The recursion over the arena, with a bound above the index, as in the definition of lowering. `worthAt` is cited, with no bound: where
-    -- question 7 is answered yes, `worthAt i` is `nodeWorth worthAt` of node i (proofs/AtNode).
+    -- question 7 is answered yes, `worthAt i` is `nodeWorth worthAt` of node i (proofs/Bound/Meaning).
     unfoldable pub worthBelow : ℕ → Worths
     worthBelow zero i = undefined
     worthBelow (suc bound) i = nodeWorth (λ n. worthBelow bound n) (node t i)
@@ -231,7 +231,7 @@ module _ (M : Operators) where
     unfoldable pub ConditionPremise : ℕ → Type 0
     ConditionPremise i = conditionAsksBelow (suc i) i
 
--- a condition's own two values: asked as at an if where it jumps on false; nothing is asked where it jumps on true
+-- the root's own two values, where the root is a condition: asked where the jump is on false, as at an if; nothing is asked where it is on true
 abbrev pub AtRoot : Bool → Type 0 → Type 0
 AtRoot false A = A
 AtRoot true A = Unit {0}

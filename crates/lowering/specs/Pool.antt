@@ -30,7 +30,7 @@ module _ (t : Tree) (root mode : ℕ) (code constants marks : List ℕ) (pooled 
   after = left (lowerRoot freeTemp t mode root (begin code constants marks pooled (length (t .names))))
 
 module _ {t : Tree} {root : ℕ} where
-  -- P of every constant for which a run asks, and of the index that it is given
+  -- P holds of every constant that a run pools, with the index that it gets
   abbrev pub Stores : (P : Operand → ℕ → Type 0) {A : Type 0} {w : Walk A} {m : Made} {o : Outcome A} → Runs t root A w m o → Type 0
   Stores P (step (finds c {p = p} l e f)) = P c p
   Stores P (step (pools {m = m} {c = c} o f h)) = P c (constantsOf m)
@@ -53,7 +53,7 @@ abbrev pub First : Lowered → Operand → ℕ → Type 0
 First l c p = (p < l .result .constants) × (recordAt 3 (l .constants) p ≡ constantWords c) × ((q : ℕ) → q < p → recordAt 3 (l .constants) q ≢ constantWords c)
 
 module _ (nodes : List ℕ) (root mode : ℕ) (list names code constants marks : List ℕ) where
-  -- The walk, and every constant for which it asks: its index is the first place with its words, and there it stays.
+  -- Every constant that the walk pools: its index is the first place with its words, and there it stays.
   pub record Pool (l : Lowered) : Type 1 where
     pub outcome : Outcome ℕ
     -- what the walk comes to

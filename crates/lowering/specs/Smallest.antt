@@ -20,7 +20,7 @@ pub record SmallestFree (s : RegisterSet) (r : ℕ) : Type 0 where
 
 -- E lowers a node as an expression, J as a condition
 module _ (t : Tree) (E : ℕ → Dest → Walk Operand) (J : ℕ → Walk ℕ) where
-  -- what is done for node i before its register is taken: of an if the condition, of a call the arguments, of all others nothing
+  -- what is done for node i before its register is taken: for an if its condition, for a call its arguments, for any other kind nothing
   unfoldable pub beforeRegister : ℕ → Node → Walk Unit
   beforeRegister i (Node.Number low high) = ret tt
   beforeRegister i (Node.String symbol) = ret tt

@@ -95,7 +95,7 @@ module _ (t : Tree) (root : ℕ) where
     pub reached : Reaches t root owner
     pub its : constantOfNode (node t owner) ≡ some c
 
-  -- Refusals 9 to 18, each with its place and span, under its own condition, of what was made where it stopped.
+  -- Refusals 9 to 18, each with its place and span, under its own condition: the condition speaks of what was made when the walk stopped.
   pub data Own : Error → Made → Type 0 where
     -- 9: the node is a name that no parameter has
     undeclared : {m : Made} {i symbol : ℕ} → Reaches t root i → node t i ≡ Node.Identifier symbol →
@@ -133,14 +133,14 @@ module _ (t : Tree) (root : ℕ) where
     gives : {m : Made} (r : ℕ) → Held m r → Step Unit (freeTemp (Register.Temp r)) m (ends tt (withRegisters (givenBack (registersOf m) r) m))
     -- a local is not given back
     leaves : {m : Made} (r : ℕ) → Step Unit (freeTemp (Register.Local r)) m (ends tt m)
-    -- an instruction is put behind the last, where it has place; its fields fit
+    -- an instruction is put after the last, where there is room; its fields fit
     emits : {m : Made} (i : Instruction) → Narrow (constantsOf m) (wordsOf i) → instructionsOf m < maxInstructions →
         instructionsOf m < capacity instructionWidth (m .code) →
         Step ℕ (emit i) m (ends (instructionsOf m) (withCode (putRecord instructionWidth (m .code) (instructionsOf m) (wordsOf i)) (instructionsOf m + 1) m))
     -- a constant is found: the first place with its words is answered
     finds : {m : Made} (c : Operand) {p : ℕ} → p < constantsOf m → recordAt constantWidth (m .constants) p ≡ constantWords c →
         Unpooled (m .constants) c p → Step ℕ (store c) m (ends p m)
-    -- a constant of a node is put behind the last, where it has place and is not among them
+    -- a constant of a node that is not pooled yet is put after the last, where there is room
     pools : {m : Made} {c : Operand} → Owned c → Unpooled (m .constants) c (constantsOf m) → constantsOf m < capacity constantWidth (m .constants) →
         Step ℕ (store c) m
         (ends (constantsOf m) (withConstants (putRecord constantWidth (m .constants) (constantsOf m) (constantWords c)) (constantsOf m + 1) m))

@@ -1,4 +1,4 @@
--- Whether the operands of an operator change places in its instruction: "Greater swaps operands, not their evaluation. A constant on the left of
+-- Whether the operands of an operator are swapped in its instruction: "Greater swaps operands, not their evaluation. A constant on the left of
 -- add, multiply, equal, not-equal goes right."
 use Prim.Native.Nat.{ℕ}
 use mathlib.Core.Bool.{Bool, true, false, cond, not}

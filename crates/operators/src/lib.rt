@@ -1,5 +1,5 @@
 // The opcode of an operator, by where its operands are: two registers (rr), a register and a constant (rk), a constant and a register (kr); and
-// whether its operands change places. "Greater swaps operands, not their evaluation. A constant on the left of add, multiply, equal, not-equal
+// whether its operands are swapped. "Greater swaps operands, not their evaluation. A constant on the left of add, multiply, equal, not-equal
 // goes right." The arms stand in the order of kaori's lower_expression.rs and lower_ast.rs.
 ghost use Prim.Native.Nat.{ℕ};
 ghost use mathlib.Core.Path.{_≡_};
@@ -71,14 +71,14 @@ pub fn binary_kr(operator: u32) -> u32
     }
 }
 
-// Whether the operands of binary_rr and binary_rk change places.
+// Whether the operands of binary_rr and binary_rk are swapped.
 pub fn swaps(operator: u32) -> bool
     ensures { λ r. ⌜ r ≡ swaps (binaryOp operator) ⌝ }
 {
     (operator == operator::GREATER) | (operator == operator::GREATER_EQUAL)
 }
 
-// Whether those of binary_kr do.
+// Whether those of binary_kr are.
 pub fn swaps_kr(operator: u32) -> bool
     ensures { λ r. ⌜ r ≡ swapsKR (binaryOp operator) ⌝ }
 {
@@ -180,7 +180,7 @@ pub fn jump_kr(sense: bool, operator: u32) -> u32
     }
 }
 
-// Whether the operands of jump_rr change places.
+// Whether the operands of jump_rr are swapped.
 pub fn jump_swaps(sense: bool, operator: u32) -> bool
     ensures { λ r. ⌜ ((c : Comparison) → comparison (binaryOp operator) ≡ some c → r ≡ jumpSwaps sense c) ⌝ }
 {

@@ -1,4 +1,4 @@
-// The questions before the walk, in order: all are answered yes, or the first no is told with its place. Plain comparisons are joined by `&`, and
+// The questions before the walk, in order: all are answered yes, or the answer is the first no, with its place. Plain comparisons are joined by `&`, and
 // `&&` stands where what follows costs more.
 ghost use mathlib.Core.Path.{_≡_};
 ghost use mathlib.Core.Bool.{true};

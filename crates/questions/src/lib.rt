@@ -1,2 +1,2 @@
-// The walk and the public operations.
+// Questions 1 to 8 of a tree.
 pub mod check;

@@ -9,7 +9,7 @@ use Rattle.runtime.specs.Instruction.{wordsOf}
 abbrev pub kindOf : Instruction → ℕ
 kindOf i = getD (wordsOf i) 0 0
 
--- the instruction with f of its destination, where `patch_arguments` lists it, and with g of its offset, where it is a jump
+-- the instruction with its destination d made f d, where `patch_arguments` lists it, and its offset o made g o, where it is a jump
 unfoldable pub patched : (ℕ → ℕ) → (ℕ → ℕ) → Instruction → Instruction
 patched f g (Instruction.Add dest src1 src2) = Instruction.Add (f dest) src1 src2
 patched f g (Instruction.AddK dest src1 src2) = Instruction.AddK (f dest) src1 src2
@@ -67,11 +67,11 @@ patched f g (Instruction.JumpIfNotEqual src1 src2 offset) = Instruction.JumpIfNo
 patched f g (Instruction.JumpIfNotEqualK src1 src2 offset) = Instruction.JumpIfNotEqualK src1 src2 (g offset)
 patched f g (Instruction.CaptureValue src) = Instruction.CaptureValue src
 
--- "Only the offset word changes": the instruction with the offset o; one that is no jump as it is
+-- "Only the offset word changes": the instruction with the offset o; one that is no jump stays as it is
 abbrev pub withOffset : ℕ → Instruction → Instruction
 withOffset o i = patched (λ d. d) (λ _. o) i
 
--- "a destination that `patch_arguments` lists": the instruction with the destination d; one that is not listed as it is
+-- "a destination that `patch_arguments` lists": the instruction with the destination d; one that is not listed stays as it is
 abbrev pub withDestination : ℕ → Instruction → Instruction
 withDestination d i = patched (λ _. d) (λ o. o) i
 

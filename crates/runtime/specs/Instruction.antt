@@ -69,7 +69,7 @@ wordsOf (Instruction.JumpIfNotEqual src1 src2 offset) = 52 ∷ src1 ∷ src2 ∷
 wordsOf (Instruction.JumpIfNotEqualK src1 src2 offset) = 53 ∷ src1 ∷ src2 ∷ offset ∷ []
 wordsOf (Instruction.CaptureValue src) = 54 ∷ src ∷ 0 ∷ 0 ∷ []
 
--- what each kind makes of the words behind it
+-- what each kind makes of the words after it
 abbrev pub decoders : List (ℕ → ℕ → ℕ → Option Instruction)
 decoders =
     (λ a b c. some (Instruction.Add a b c)) ∷
@@ -129,7 +129,7 @@ decoders =
     (λ a b c. some (Instruction.CaptureValue a)) ∷
     []
 
--- the instruction that a record holds: none where the kind is above 54; a word behind the last field is not looked at
+-- the instruction that a record holds: none where the kind is above 54; a word after the last field is not looked at
 unfoldable pub decode : List ℕ → Option Instruction
 decode ws = getD decoders (getD ws 0 0) (λ a b c. none) (getD ws 1 0) (getD ws 2 0) (getD ws 3 0)
 

@@ -15,7 +15,7 @@ Unpooled ws c n = (q : ℕ) → q < n → q < capacity constantWidth ws → reco
 
 -- "emit appends": instruction i is at place p
 pub record Emitted (ws : List ℕ) (count : ℕ) (i : Instruction) (after : Buffer) (p : ℕ) : Type 0 where
-  -- it is put behind the last
+  -- it is put after the last
   pub last : p ≡ count
   -- and counted
   pub counted : after .answer .count ≡ p + 1
@@ -32,9 +32,9 @@ pub record Stored (ws : List ℕ) (count : ℕ) (c : Operand) (after : Buffer) (
   pub holds : recordAt constantWidth (after .words) p ≡ constantWords c
   -- and at no place before
   pub first : Unpooled (after .words) c p
-  -- every record but the one behind the last is as it was
+  -- every record but the one after the last is as it was
   pub kept : (q : ℕ) → q ≢ count → recordAt constantWidth (after .words) q ≡ recordAt constantWidth ws q
-  -- where it was pooled nothing has changed, and where it was not there is one more
+  -- if it was pooled already, nothing has changed; if not, there is one more
   pub grows : ((p < count) × (after .words ≡ ws) × (after .answer .count ≡ count)) ⊎ ((p ≡ count) × (after .answer .count ≡ count + 1) × Unpooled ws c count)
 
 -- "Does the code buffer have place for the next instruction, with fewer than 1,048,576 made? The constant buffer for a new constant?", answered no:

@@ -14,7 +14,7 @@ use words::position;
 // The most instructions that are made.
 pub const MAX_INSTRUCTIONS: u32 = 1048576;
 
-// Puts the instruction with these words behind the first `count` ones: its place, or FULL.
+// Puts the instruction with these words after the first `count` ones. The answer is its place, or FULL.
 pub fn emit_instruction(code: &mut [u8], count: u32, opcode: u32, a: u32, b: u32, c: u32) -> u32
     ensures words { λ r. ⌜ buffer (words (now (code .exit))) (appended count r Refusal.Code)
         ≡ append (words (now (code .entry))) count maxInstructions (opcode ∷ a ∷ b ∷ c ∷ []) Refusal.Code ⌝ }
@@ -24,7 +24,8 @@ pub fn emit_instruction(code: &mut [u8], count: u32, opcode: u32, a: u32, b: u32
     append(code, count, MAX_INSTRUCTIONS, &words)
 }
 
-// The place of the first of the first `count` constants that is this one; else it is put behind them: its place, or FULL.
+// Pools a constant. The answer is the place of the first of the `count` constants that is this one; if none is, the constant is put after them, and the answer is
+// its place, or FULL.
 pub fn store_constant(constants: &mut [u8], count: u32, constant: Operand) -> u32
     ensures words { λ r. ⌜ buffer (words (now (constants .exit))) (appended count r Refusal.Constants) ≡ storeConstant (words (now (constants .entry))) count constant ⌝ }
     ensures tail { λ r. ⌜ tail (now (constants .exit)) ≡ tail (now (constants .entry)) ⌝ }

@@ -1,4 +1,4 @@
--- What a word of the walk says: a register, a destination, an operand, an answer. A contract of the walk equates the definition's outcome with what is seen
+-- What a word of the walk means: a register, a destination, an operand, an answer. A contract of the walk equates the definition's outcome with what `seen` makes
 -- of the program's answer: whether it ended or stopped, with what, and all that is left.
 use Prim.Native.Nat.{ℕ, _+_, _*_, _-_, _/_, _%_, _≤_, _<_}
 use mathlib.Core.Path.{_≡_}
@@ -43,7 +43,7 @@ unfoldable pub numberAt : Place → ℕ
 numberAt (Place.At r) = r
 numberAt (Place.Refused refusal) = none
 
--- in place of a register: the node is a literal, which is not pooled yet
+-- the word of an operand that is in no register: the node is a literal, which is not pooled yet
 abbrev pub literalWord : ℕ
 literalWord = 1024
 
@@ -109,7 +109,7 @@ namesNode Refusal.Jump = false
 unfoldable pub errorAt : Tree → Refusal → ℕ → Error
 errorAt t refusal place = cond (namesNode refusal) (error refusal place (spanStart t place) (spanEnd t place)) (error refusal place 0 0)
 
--- the registers that are held after a refusal are of no account: nothing is taken any more, and no number or byte shows them
+-- after a refusal it does not matter which registers are held: nothing is taken any more, and no number and no byte shows them
 abbrev pub settle : Made → Made
 settle m = withRegisters allFree m
 
@@ -117,7 +117,7 @@ unfoldable pub settled : {A : Type 0} → Outcome A → Outcome A
 settled (ends x m) = ends x m
 settled (stops e m) = stops e (settle m)
 
--- an answer beside what is left, as an outcome; `gives` reads the word. Words that the walk does not make may be seen alike.
+-- an answer and what is left, as an outcome; `gives` reads the word. Two words that the walk never makes may be read alike.
 unfoldable pub seen : {A : Type 0} → Tree → (ℕ → A) → Made → ℕ → Outcome A
 seen t gives m a = cond (isRefusal a) (stops (errorAt t (refusalOf (numberOfRefusal a)) (valueOf a)) (settle m)) (ends (gives (valueOf a)) m)
 

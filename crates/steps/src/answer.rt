@@ -24,13 +24,13 @@ pub struct Emitted {
 // How many registers there are.
 const REGISTERS: u32 = 256;
 
-// In place of a destination: any register will do.
+// The word of a destination where any register will do.
 pub const ANY: u32 = 512;
 
-// In place of a register: the node is a literal, an operand that is not pooled yet.
+// The word of an operand that is in no register: the node is a literal, which is not pooled yet.
 pub const LITERAL: u32 = 1024;
 
-// In place of a register: there is none.
+// The word where there is no register.
 pub const NONE: u32 = 4294967295;
 
 // Answers from here on are refusals: the test is one of the sign, which the compiler takes for rare.

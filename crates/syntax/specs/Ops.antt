@@ -13,7 +13,7 @@ binaryOps =
 abbrev pub unaryOps : List UnaryOp
 unaryOps = UnaryOp.Negate ∷ UnaryOp.Deref ∷ []
 
--- the operator at a place in the order; past it, the last one
+-- the operator of a word; a word past the last operator reads as the last
 unfoldable pub binaryOp : ℕ → BinaryOp
 binaryOp word = getD binaryOps word BinaryOp.LessEqual
 

@@ -1,4 +1,4 @@
-// Operators (kaori's syntax/ops.rs), each with its place in the order.
+// Operators (kaori's syntax/ops.rs), each by its word.
 ghost use mathlib.Core.Path.{_≡_};
 ghost use Rattle.syntax.specs.Ops.{binaryOp, unaryOp};
 
@@ -32,7 +32,7 @@ pub enum Comparison {
 }
 
 impl BinaryOp {
-    // The operator of a node's word; the last one past the order.
+    // The operator of a node's word; a word past the last operator reads as the last.
     pub fn from_word(word: u32) -> BinaryOp
         ensures { λ r. ⌜ r ≡ binaryOp word ⌝ }
     {
@@ -53,7 +53,7 @@ impl BinaryOp {
 }
 
 impl UnaryOp {
-    // The operator of a node's word; the last one past the order.
+    // The operator of a node's word; a word past the last operator reads as the last.
     pub fn from_word(word: u32) -> UnaryOp
         ensures { λ r. ⌜ r ≡ unaryOp word ⌝ }
     {

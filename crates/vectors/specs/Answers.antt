@@ -1,5 +1,5 @@
--- A record of answers: how it is laid out, which cases it has, and what their replay gives. `at`, and what is called end or at, is an offset in bytes from the
--- start of the record s.
+-- A record of answers: how it is laid out, which cases it has, and what their replay gives. `at`, and each name that ends in At or End, is an offset in bytes from
+-- the start of the record s.
 use Prim.Native.Nat.{ℕ, zero, suc, _+_, _-_, _*_}
 use mathlib.Core.List.{List, [], _∷_}
 use mathlib.Core.Bool.{Bool, true, false, cond, _&&_}

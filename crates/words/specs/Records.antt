@@ -42,7 +42,7 @@ positionFrom ws r (suc n) p = cond (isAt ws r p) p (positionFrom ws r n (suc p))
 unfoldable pub position : List ℕ → List ℕ → ℕ → ℕ
 position ws r count = positionFrom ws r count 0
 
--- in place of a place: there was no room
+-- the largest word, in answers that have no place to give: there was no room, or nothing was found
 abbrev pub full : ℕ
 full = 4294967295
 
@@ -63,21 +63,22 @@ pub record Buffer : Type 0 where
 abbrev pub buffer : List ℕ → Appended → Buffer
 buffer ws a = record { words = ws; answer = a }
 
--- an append's answer by one number: the place, or `full`; a record that was found, at a smaller place, is not counted
+-- an append's answer, read from one number: the place, or `full`; a record that was found, at a place below the count, is not counted again
 unfoldable pub appended : ℕ → ℕ → Refusal → Appended
 appended count place refusal =
     cond (eqb place full)
     (record { count = count; place = Place.Refused refusal })
     (record { count = cond (eqb place count) (count + 1) count; place = Place.At place })
 
--- a record put behind the first `count` ones, "with fewer than" `limit` "made" and "place for the next"; else the buffer as it was, and the refusal
+-- a record put after the first `count` ones, "with fewer than" `limit` "made" and "place for the next"; otherwise the buffer as it was, and the refusal
 unfoldable pub append : List ℕ → ℕ → ℕ → List ℕ → Refusal → Buffer
 append ws count limit r refusal =
     cond (ltb count limit && ltb count (capacity (length r) ws))
     (buffer (putRecord (length r) ws count r) (record { count = count + 1; place = Place.At count }))
     (buffer ws (record { count = count; place = Place.Refused refusal }))
 
--- "the pool gives the first equal constant", of any record: what `positionFrom` finds, a place within reach, where it is inside that of r, and before it no record that is r
+-- "the pool gives the first equal constant", for records of any width. q is what a search gives that looks for r among the n records from p on: the place of
+-- the first that is r, or p + n where none is
 pub record First (ws r : List ℕ) (n p q : ℕ) : Type 0 where
   pub start : p ≤ q
   pub within : q ≤ p + n

@@ -17,7 +17,7 @@ pub struct Appended {
 // The most records that a count of 32 bits can say.
 pub const MAX_COUNT: u32 = 4294967295;
 
-// In place of a place: there was no room. No buffer holds so many records.
+// The largest word, in answers that have no place to give: there was no room, or nothing was found. No buffer holds so many records.
 pub const FULL: u32 = 4294967295;
 
 fn wide(x: u8) -> u32
@@ -44,7 +44,7 @@ pub fn word(s: &[u8], i: usize) -> u32
     if i < s.len() / 4 { whole_word(s, i) } else { 0 }
 }
 
-// Makes the word at i, which is one of the whole words, x.
+// Sets the word at i, which is one of the whole words, to x.
 fn put_whole(s: &mut [u8], i: usize, x: u32)
     requires { ⌜ i < length (words (now s)) ⌝ }
     ensures words { λ _. ⌜ words (now (s .exit)) ≡ set (words (now (s .entry))) i x ⌝ }
@@ -56,7 +56,7 @@ fn put_whole(s: &mut [u8], i: usize, x: u32)
     s[4 * i + 3] = (x / 16777216) as u8;
 }
 
-// Makes the word at i x; past the last whole word nothing changes.
+// Sets the word at i to x; past the last whole word nothing changes.
 pub fn put_word(s: &mut [u8], i: usize, x: u32)
     ensures words { λ _. ⌜ words (now (s .exit)) ≡ set (words (now (s .entry))) i x ⌝ }
     ensures tail { λ _. ⌜ tail (now (s .exit)) ≡ tail (now (s .entry)) ⌝ }
@@ -66,7 +66,7 @@ pub fn put_word(s: &mut [u8], i: usize, x: u32)
     }
 }
 
-// Makes the words from `at` on, which are whole, those of `xs`, one after the other.
+// Sets the words from `at` on, which are whole, to those of `xs`.
 fn put_record(s: &mut [u8], at: usize, xs: &[u32])
     requires { ⌜ at + length (now xs) ≤ length (words (now s)) ⌝ }
     ensures words { λ _. ⌜ words (now (s .exit)) ≡ sets (words (now (s .entry))) at (now (xs .entry)) ⌝ }
@@ -79,7 +79,7 @@ fn put_record(s: &mut [u8], at: usize, xs: &[u32])
     }
 }
 
-// Makes the words from `at` on those of `xs`; past the last whole word nothing changes.
+// Sets the words from `at` on to those of `xs`; past the last whole word nothing changes.
 pub fn put_words(s: &mut [u8], at: usize, xs: &[u32])
     ensures words { λ _. ⌜ words (now (s .exit)) ≡ sets (words (now (s .entry))) at (now (xs .entry)) ⌝ }
     ensures tail { λ _. ⌜ tail (now (s .exit)) ≡ tail (now (s .entry)) ⌝ }
@@ -102,7 +102,7 @@ pub fn capacity(s: &[u8], width: usize) -> usize
     if width == 0 { 0 } else { s.len() / 4 / width }
 }
 
-// Puts a record behind the first `count` ones, where fewer than `limit` are made and the buffer has place for it: its place, or FULL.
+// Puts a record after the first `count` ones, if fewer than `limit` are made and the buffer has room for it. The answer is its place, or FULL.
 pub fn append(s: &mut [u8], count: u32, limit: u32, item: &[u32]) -> u32
     ensures words { λ r. ⌜ ((refusal : Refusal) → buffer (words (now (s .exit))) (appended count r refusal) ≡ append (words (now (s .entry))) count limit (now (item .entry)) refusal) ⌝ }
     ensures tail { λ r. ⌜ tail (now (s .exit)) ≡ tail (now (s .entry)) ⌝ }
