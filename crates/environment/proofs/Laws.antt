@@ -1,4 +1,4 @@
--- The laws of registers, parameters and names. Crates above cite these and look behind none of them: a set is known by `held` and the frame
+-- The laws of registers, parameters and names. Crates above cite these and do not look into the definitions: a set is known by `held` and the frame
 -- size. Assumes nothing.
 use mathlib.Core.Path.{_≡_, refl, sym, ap, _∙_, subst}
 use mathlib.Core.Logic.{_≢_, _↔_}

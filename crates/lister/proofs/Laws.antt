@@ -1,5 +1,5 @@
 -- What the program prints: of a tree in slices, by what lowering leaves; of a good text, by the bytes that reading leaves; that its output buffer holds
--- every listing; and that a text cut behind the longest good one prints what the whole text does. Assumes nothing.
+-- every listing; and that a text cut after the length of the longest good one prints what the whole text does. Assumes nothing.
 use mathlib.Core.Path.{_≡_, refl, sym, ap, _∙_}
 use mathlib.Core.List.{List, [], _∷_, _++_}
 use mathlib.Core.Option.{none}
@@ -155,7 +155,7 @@ long-bad s l = go (readText s) refl
     go Head.Bad e = e
     go (Head.Good h) e = let t = text-bounds s h e in absurd (omega (arith, t .0, t .1, t .2, text-only s h e .header .size))
 
--- a text cut anywhere behind that is as bad as it was whole
+-- a text cut anywhere after that is as bad as it was whole
 pub cut-text : (s : List ℕ) (n : ℕ) → longestText < n → lowerlist (take n s) ≡ lowerlist s
 cut-text s n l = go (decLt n (length s))
   where

@@ -111,7 +111,7 @@ module _ (lifetimes : List ℕ × (List ℕ × Unit {0})) (textAt outAt outThen 
   pub otherwise : ((t : Tree) → Fits t → text ≡ writeTree t → ⊥) → Prints (bytesOfLines oneAndZeros) out out′ r
   otherwise none = instead (bytesOfLines oneAndZeros) (bad-prints text [] [] (unwritten text none) ∙ one-and-zeros)
 
-  -- A text that was cut, behind the longest that is within the bounds, prints what the whole text does.
+  -- A text that is cut, after the length of the longest that is within the bounds, prints what the whole text does.
   pub cut : (s : List ℕ) (n : ℕ) → longestText < n → text ≡ take n s → Prints (lowerlist s) out out′ r
   cut s n l e = instead (lowerlist s) (ap lowerlist e ∙ cut-text s n l)
 

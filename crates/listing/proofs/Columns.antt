@@ -51,7 +51,7 @@ unfolding readBytes steps
 read-steps c [] s = refl
 read-steps c (b ∷ bs) s = read-steps (step c b) bs s
 
--- a digit, behind spaces and behind a number
+-- a digit, after spaces and after a number
 module _ (d : ℕ) (h : d < 10) where
   is-digit : isDigit (digitZero + d) ≡ true
   is-digit = rw (le-leb 48 (48 + d) (omega arith), le-leb (48 + d) 57 (omega arith))
@@ -74,7 +74,7 @@ unfoldable left : ℕ → Column
 left zero = Column.Blank
 left (suc x) = Column.Number (suc x)
 
--- one digit behind what is left
+-- one digit after what is left
 left-digit : (x : ℕ) → x ≤ maxWord → step (left (x / 10)) (digitZero + x % 10) ≡ Column.Number x
 unfolding left
 left-digit x h = go (x / 10) refl

@@ -79,7 +79,7 @@ unfolding readLine
 line-width zero s g = refl
 line-width (suc w) s g = behind-width (readColumn s) (readLine w (drop columnBytes s)) w (line-width w (drop columnBytes s)) g
 
--- a run of stores, and another behind it
+-- a run of stores, and another after it
 pub sets-append : (l : List ℕ) (i : ℕ) (xs ys : List ℕ) → sets l i (xs ++ ys) ≡ sets (sets l i xs) (i + length xs) ys
 sets-append l i [] ys = rw (add-zero i)
 sets-append l i (x ∷ xs) ys = let e : i + suc (length xs) ≡ suc i + length xs = omega arith in rw e (sets-append (set l i x) (suc i) xs ys)

@@ -78,7 +78,7 @@ module _ (at w n : ℕ) (ws : List ℕ) where
   unfolding linesToWrite writeLines
   write-lines-end out i h = let m : n - i ≡ 0 = omega arith in rw m
 
--- three runs of stores, each behind the one before
+-- three runs of stores, each after the one before
 sets-three : (out xs ys zs : List ℕ) (i j : ℕ) → length xs ≡ i → i + length ys ≡ j → sets (sets (sets out 0 xs) i ys) j zs ≡ sets out 0 (xs ++ ys ++ zs)
 sets-three out xs ys zs i j e f =
     let z : 0 + length xs ≡ i = omega arith in

@@ -1,4 +1,4 @@
--- Instructions and their records: decoding is the inverse of `wordsOf`, both ways where the words behind the last field are 0, and an offset or a
+-- Instructions and their records: decoding is the inverse of `wordsOf`, both ways where the words after the last field are 0, and an offset or a
 -- destination is one word of the record. Assumes nothing.
 use mathlib.Core.Path.{_≡_, refl, sym, ap, _∙_}
 use mathlib.Core.List.{List, [], _∷_, map}
@@ -127,12 +127,12 @@ getD-records k (n ∷ ns) (suc j) d h = let e : k + suc j ≡ suc k + j = omega 
 abbrev recoded : (ℕ → ℕ → ℕ → Option Instruction) → ℕ → ℕ → ℕ → Option (List ℕ)
 recoded f a b c = Option·map wordsOf (f a b c)
 
--- the whole table at once: what each kind decodes to has the words that were decoded, with 0 behind the last field
+-- the whole table at once: what each kind decodes to has the words that were decoded, with 0 after the last field
 recoded-decoders : map recoded decoders ≡ records 0 fields
 unfolding wordsOf
 recoded-decoders = refl
 
--- what a record of a kind up to 54 decodes to has its words, with 0 behind the last field
+-- what a record of a kind up to 54 decodes to has its words, with 0 after the last field
 pub words-of-decode : (k a b c : ℕ) → k ≤ 54 → Option·map wordsOf (decode (k ∷ a ∷ b ∷ c ∷ [])) ≡ some (recordOf (fieldsOf k) k a b c)
 unfolding decode
 words-of-decode k a b c h =
@@ -147,7 +147,7 @@ module _ (k a b c : ℕ) where
   pub decode-below : k ≤ 54 → (i : Instruction) × (decode (k ∷ a ∷ b ∷ c ∷ []) ≡ some i)
   decode-below h = let found = map-eq-some-iff wordsOf (decode (k ∷ a ∷ b ∷ c ∷ [])) .0 (words-of-decode k a b c h) in (found .0, found .1)
 
-  -- what is decoded has the words of the record, with 0 behind the last field: those behind it are not looked at
+  -- what is decoded has the words of the record, with 0 after the last field: those after it are not looked at
   pub decoded-words : (i : Instruction) → decode (k ∷ a ∷ b ∷ c ∷ []) ≡ some i → wordsOf i ≡ recordOf (fieldsOf k) k a b c
   decoded-words i e = go (decLt 54 k)
     where

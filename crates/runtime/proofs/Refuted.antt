@@ -13,7 +13,7 @@ use Rattle.runtime.specs.Value.{constantWords}
 use Rattle.runtime.specs.Instruction.{wordsOf}
 use Rattle.runtime.specs.Pool.{Emitted, Stored, Full}
 
--- ---- Move 1 0 is put behind one instruction, in a buffer of three whose words are 9
+-- ---- Move 1 0 is put after one instruction, in a buffer of three whose words are 9
 
 abbrev code : List ℕ
 code = replicate 12 9
@@ -39,7 +39,7 @@ pub other-refuted : MoveAt (buffer (set (replicate 4 9 ++ (25 ∷ 1 ∷ 0 ∷ 0 
 unfolding recordAt
 other-refuted e = omega (arith, ap (λ ws. getD ws 3 0) (e .kept 0 (λ z. omega arith)))
 
--- ---- the string 5 is in a pool of two as its second constant, behind nil
+-- ---- the string 5 is in a pool of two as its second constant, after nil
 
 abbrev pool : List ℕ
 pool = 0 ∷ 0 ∷ 0 ∷ 3 ∷ 5 ∷ 0 ∷ []
@@ -47,7 +47,7 @@ pool = 0 ∷ 0 ∷ 0 ∷ 3 ∷ 5 ∷ 0 ∷ []
 abbrev pub FiveAt : ℕ → ℕ → Type 0
 FiveAt count p = Stored pool 2 (Operand.String 5) (buffer pool (record { count = count; place = Place.At p })) p
 
--- not where nil is, and not a second time behind the last
+-- not where nil is, and not a second time after the last
 pub first-refuted : FiveAt 2 0 → ⊥
 unfolding recordAt constantWords
 first-refuted s = omega (arith, ap (λ ws. getD ws 0 0) (s .holds))

@@ -1,4 +1,4 @@
--- Where every node names lower ones only, as question 7 asks, the bound in the meaning of a tree makes no difference: what a node is worth, its
+-- Where every node names lower ones only, as question 7 asks, the bound in the meaning of a tree makes no difference: the value of a node, its
 -- size and what is asked on its way are those of its kind, by the same of the nodes that it names. Assumes nothing.
 use Prim.Native.Nat.{ℕ, zero, suc, _+_, _<_}
 use native.Mathlib.Omega.{arith}
@@ -49,7 +49,7 @@ module _ (M : Operators) (t : Tree) (args : ℕ → M .Value) where
       worth-same (λ n. worthBelow M t args f n) (λ n. worthBelow M t args g n) (node t i)
       (λ c x. let l : c < i = falls i c o x in worth-bound n falls f g c (omega arith) (omega arith) (omega arith))
 
-  -- what a node is worth, by the nodes that it names
+  -- the value of a node, by the nodes that it names
   pub worth-at : (n : ℕ) → Falls n t → (i : ℕ) → i < n → worthAt M t args i ≡ nodeWorth M t args (worthAt M t args) (node t i)
   unfolding worthAt worthBelow
   worth-at n falls i o =

@@ -338,7 +338,7 @@ module _ (sense : Bool) (t : Tree) (root : ℕ) (m m' : Made) (j : ℕ) (empty :
           go (fails y) q k = breaks y q
           go undefined q k = absurd k
 
-      -- a goal past the place behind the code
+      -- a goal past the place after the code
       module _ (ahead : count m' < g .place) (n : ℕ) (u : UpTo sense t root alone g s n) where
         abbrev go-on : Now M → Now M
         go-on now = step M consts code now

@@ -146,7 +146,7 @@ page-order x p =
     let o = numbers-ordered x three p refl in
     ((tt, met tt), met (met (o .0, o .1)), met (chosen (lt x three)))
 
--- what the page is worth
+-- the value of the page
 pub page-worth : (x : Float) → worthAt ieee pageTree (λ r. number x) 5 ≡ worth (number (cond (lt x three) one two))
 unfolding worthAt worthBelow nodeWorth lastNamed operate compared numbers truthful ofBits toBits nanBits capacity recordAt putRecord sameWords isAt positionFrom position append wordOf words tail bytesOf bit clear flip found allocated freed parameters lookup free takeOut putBack smallestFrom smallestFree allFree without taken givenBack nodeWord nodeAt binaryOp unaryOp emitInstruction storeConstant wordsOf hasDestination offsetWord regOf numberOf constantWords source sameRegister nameOf materialized lowerMaterializing moved named binarySources lowerArguments storeNamed storeKeyed lowerEntry lowerEntries lowerElse lowerTail lowerNode tested fusedSources fused jumpNode lowerExpression lowerJumpIfFalse lowerJumpIfTrue expressionBelow jumpBelow binaryRR binaryRK binaryKR unary comparison jumpRR jumpRK jumpKR jumpIf whole question1 question2 question3 question4 question5 question6 allBelow question7 question8 askNode askNodes questions begin lowerRoot answered lowerChecked lower placed registered allocateTemp freeTemp destination emit store loadConstant withOffset patchToNext mark patchArgument patchMarks patchArguments present entryNodes children bind
 page-worth x = go (lt x three)
@@ -211,7 +211,7 @@ page-returns x p rest =
 
 -- ---- NaN: `if x < 1 1 else 2`, x = symbol 7, the smallest rule that shows it
 
--- the test is false, so the rule is worth 2
+-- the test is false, so the value of the rule is 2
 nan-worth : worthAt ieee ruleTree (λ r. number nan) 4 ≡ worth (number two)
 unfolding worthAt worthBelow nodeWorth lastNamed operate compared numbers truthful lt ofBits toBits nanBits capacity recordAt putRecord sameWords isAt positionFrom position append wordOf words tail bytesOf bit clear flip found allocated freed parameters lookup free takeOut putBack smallestFrom smallestFree allFree without taken givenBack nodeWord nodeAt binaryOp unaryOp emitInstruction storeConstant wordsOf hasDestination offsetWord regOf numberOf constantWords source sameRegister nameOf materialized lowerMaterializing moved named binarySources lowerArguments storeNamed storeKeyed lowerEntry lowerEntries lowerElse lowerTail lowerNode tested fusedSources fused jumpNode lowerExpression lowerJumpIfFalse lowerJumpIfTrue expressionBelow jumpBelow binaryRR binaryRK binaryKR unary comparison jumpRR jumpRK jumpKR jumpIf whole question1 question2 question3 question4 question5 question6 allBelow question7 question8 askNode askNodes questions begin lowerRoot answered lowerChecked lower placed registered allocateTemp freeTemp destination emit store loadConstant withOffset patchToNext mark patchArgument patchMarks patchArguments present entryNodes children bind
 nan-worth = refl
@@ -229,7 +229,7 @@ nan-premise : OrderPremise ieee ruleTree (λ r. number nan) 4 → ⊥
 unfolding OrderPremise asksBelow nodeAsks conditionAsksBelow conditionAsks OrderAt worthBelow nodeWorth lastNamed operate compared numbers truthful isNan ofBits toBits nanBits capacity recordAt putRecord sameWords isAt positionFrom position append wordOf words tail bytesOf bit clear flip found allocated freed parameters lookup free takeOut putBack smallestFrom smallestFree allFree without taken givenBack nodeWord nodeAt binaryOp unaryOp emitInstruction storeConstant wordsOf hasDestination offsetWord regOf numberOf constantWords source sameRegister nameOf materialized lowerMaterializing moved named binarySources lowerArguments storeNamed storeKeyed lowerEntry lowerEntries lowerElse lowerTail lowerNode tested fusedSources fused jumpNode lowerExpression lowerJumpIfFalse lowerJumpIfTrue expressionBelow jumpBelow binaryRR binaryRK binaryKR unary comparison jumpRR jumpRK jumpKR jumpIf whole question1 question2 question3 question4 question5 question6 allBelow question7 question8 askNode askNodes questions begin lowerRoot answered lowerChecked lower placed registered allocateTemp freeTemp destination emit store loadConstant withOffset patchToNext mark patchArgument patchMarks patchArguments present entryNodes children bind
 nan-premise h = nan-unordered one (met-worth (met-worth (h .1)) .0)
 
--- "With a NaN the then-branch runs, where IEEE 754 says the test is false.": the rule is worth 2 and its code returns 1, for the premise fails
+-- "With a NaN the then-branch runs, where IEEE 754 says the test is false.": the value of the rule is 2 and its code returns 1, since the premise fails
 pub nan-runs-then : (rest : Registers ieee) →
     (OrderPremise ieee ruleTree (λ r. number nan) 4 → ⊥)
     × (worthAt ieee ruleTree (λ r. number nan) 4 ≡ worth (number two))

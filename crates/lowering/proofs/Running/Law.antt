@@ -280,7 +280,7 @@ module _ (a : Accepted) (s : Setting a) where
       one-ending (s .operators) (constantAt (s .operators) (s .pool) (s .pooled)) (fetch (s .code) (s .count)) n k (Now.at (s .base) (s .registers)) h g in
       cc
 
-  -- from an ending back to what the tree is worth
+  -- from an ending back to the value of the tree
   value-back : (r : Worth (s .operators .Failure) (s .operators .Value)) (n k : ℕ) {v : s .operators .Value} →
       EndsWith (s .operators) r (ran a s n) → Ended k (returned v) → r ≡ worth v
   value-back (worth u) n k {v} h g = let q : _≡_ {A = Ending (s .operators)} (returned u) (returned v) = same-ending n k h g in cc

@@ -18,7 +18,7 @@ use Rattle.runtime.proofs.Encoding.{decode-words-of}
 use Rattle.lowering.proofs.Running.Decode.{aim}
 use Rattle.lowering.proofs.Running.Steps.{miss}
 
--- ---- what a tree is worth: K of its value, or L of its failure; it is defined
+-- ---- the value of a tree: K holds of it, or L of its failure; it is defined
 
 pub data After {F A : Type 0} (K : A → Type 0) (L : F → Type 0) : Worth F A → Type 0 where
   worked : {a : A} → K a → After K L (worth a)

@@ -150,7 +150,7 @@ module _ (t : Tree) (root : ℕ) where
   unfolding lowerMaterializing
   materializing-good own dest m g h = chain h (λ x n l. materialized-good (source x) dest (l .kept) g (l .answer))
 
-  -- one instruction behind a destination, and the registers that it used given back
+  -- one instruction after a destination, and the registers that it used given back
   one-good : (i : Instruction) {m m0 ma mb : Made} {dest : Dest} (d src : Register) → Settled m dest d m0 → Kept m0 ma → Loose m0 src → Ready ma src → Kept ma mb →
       Sound (registersOf m) → Narrow (constantsOf mb) (wordsOf i) →
       Good t root (Lowered m dest) (λ F. emit i >> (F src >> ret (Operand.Register d))) mb

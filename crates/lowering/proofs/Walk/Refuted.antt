@@ -57,7 +57,7 @@ page-right : answered 1 walked ≡ pageWith 5 3 2 pageCode pageConstants
 unfolding ofBits toBits nanBits capacity recordAt putRecord sameWords isAt positionFrom position append wordOf words tail bytesOf bit clear flip found allocated freed parameters lookup free takeOut putBack smallestFrom smallestFree allFree without taken givenBack nodeWord nodeAt binaryOp unaryOp emitInstruction storeConstant wordsOf hasDestination offsetWord regOf numberOf constantWords source sameRegister nameOf materialized lowerMaterializing moved named binarySources lowerArguments storeNamed storeKeyed lowerEntry lowerEntries lowerElse lowerTail lowerNode tested fusedSources fused jumpNode lowerExpression lowerJumpIfFalse lowerJumpIfTrue expressionBelow jumpBelow binaryRR binaryRK binaryKR unary comparison jumpRR jumpRK jumpKR jumpIf whole question1 question2 question3 question4 question5 question6 allBelow question7 question8 askNode askNodes questions begin lowerRoot answered lowerChecked lower placed registered allocateTemp freeTemp destination emit store loadConstant withOffset patchToNext mark patchArgument patchMarks patchArguments present entryNodes children bind
 page-right = refl
 
--- ---- Law 3: word 6 is the constant of the then-branch, 1 for the number 1. With 2 there the code returns 2 where the tree is worth 1.
+-- ---- Law 3: word 6 is the constant of the then-branch, 1 for the number 1. With 2 there the code returns 2, and the value of the tree is 1.
 
 -- 1 of the number 1, and 0 of all else
 isOne : Worth Mismatch Datum → ℕ
