@@ -157,9 +157,9 @@ enum sewurogi_constant {
 };
 
 /*
- * An instruction is four words: its kind and its fields, in the order given here, then 0s. A field is a register, where
- * nothing else is said: a constant is meant by its index in `constants`. The parameters are registers 0 upward. A jump
- * goes to its own index plus `offset`, which is signed, in two's complement.
+ * An instruction is four words: its kind and its fields, in the order given here, then 0s. A field is a register unless
+ * its comment says otherwise; a constant is given by its index in `constants`. The parameters are registers 0 upward. A
+ * jump goes to its own index plus `offset`, which is signed, in two's complement.
  */
 enum sewurogi_instruction {
     SEWUROGI_INSTRUCTION_ADD = 0,                        /* dest, src1, src2 */

@@ -20,7 +20,7 @@ const MODULES: &[(&str, &[&str])] = &[
     ("", &["compiler"]),
 ];
 
-/// Modules that kaori has and these papers do not: one stub file a folder, beside this script.
+/// Modules that kaori has and document 01 leaves out: one stub file a folder, beside this script.
 const STUBBED: &[&str] = &["codegen", "runtime", "syntax"];
 
 /// Files whose vectors are the three buffers of document 01.

@@ -198,7 +198,8 @@ fn blocks(nodes: usize) -> Tree {
     tree
 }
 
-/// Examples of READINGS.md, by its numbers.
+/// Examples of how the open points of document 01 are read (docs/DECISIONS.md). The examples of one point have one number
+/// before their names, which the recorded answers keep.
 fn readings() -> Vec<Case> {
     let not_y_plus_x_of_x = binary(operator::ADD, not(y()), call(x(), [x()]));
     vec![

@@ -16,7 +16,7 @@ use std::{
 /// Sizes in nodes.
 pub const SIZES: [usize; 3] = [16, 256, 4096];
 
-/// How long one batch of lowerings takes at least, and how many batches there are unless said; the fastest counts.
+/// How long one batch of lowerings takes at least, and how many batches there are by default; the fastest counts.
 const BATCH: Duration = Duration::from_millis(1);
 pub const ROUNDS: usize = 100;
 
@@ -130,7 +130,7 @@ impl Row {
         Answer { result, code, constants, marks } == answer
     }
 
-    /// A batch of each side in turn, as many rounds as said. What is slow for a while is slow for all.
+    /// A batch of each side in turn, for `rounds` rounds. What is slow for a while is slow for all.
     pub fn timing(self, ports: &[Port], rounds: usize) -> Timing {
         let tree = self.tree();
         let (mut input, answer) = asked(&tree);

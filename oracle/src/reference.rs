@@ -9,7 +9,7 @@ use std::{
     sync::Once,
 };
 
-/// Instructions, constants and marks that there is place for.
+/// Instructions, constants and marks that there is room for.
 #[derive(Clone, Copy, Debug)]
 pub struct Limits {
     pub instructions: usize,

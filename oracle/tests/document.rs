@@ -126,7 +126,7 @@ fn lowered(names: &[u32], expression: Expression, room: Room) -> Answer {
     agreed(&expression::tree(0, names, &expression), room)
 }
 
-/// Reading 1: a text is past the bounds by nodes, list words and parameters; the buffers refuse on their own.
+/// A text is past the bounds by nodes, list words and parameters; the buffers refuse on their own.
 #[test]
 fn bounds_of_the_program() {
     deep(|| {
@@ -148,7 +148,7 @@ fn bounds_of_the_program() {
     });
 }
 
-/// Reading 7: exactly 1,048,576 instructions may be made, whatever the room.
+/// Exactly 1,048,576 instructions may be made, whatever the room.
 #[test]
 fn most_instructions() {
     deep(|| {
@@ -162,7 +162,7 @@ fn most_instructions() {
     });
 }
 
-/// Reading 8: capacity is whole records, and bytes past them stay.
+/// Capacity is whole records, and bytes past them stay.
 #[test]
 fn whole_records() {
     let sum = || binary(operator::ADD, x(), number(1.0));
@@ -183,7 +183,7 @@ fn whole_records() {
 /// Patching, by the model and by the port.
 const PATCHES: [&Patch; 2] = [&model::patch, &port::patch];
 
-/// Reading 9: which kinds are jumps, and which word holds the offset, for all 55.
+/// Which kinds are jumps, and which word holds the offset, for all 55.
 #[test]
 fn patching() {
     assert_eq!(instruction_names().len(), 55);
@@ -217,7 +217,7 @@ fn patching() {
     }
 }
 
-/// Reading 12: a list part at the list's end, and counts that pass 32 bits.
+/// A list part at the list's end, and counts that pass 32 bits.
 #[test]
 fn list_parts() {
     for case in cases::all().iter().filter(|case| case.name.contains("list's end") || case.name.starts_with("6")) {
@@ -226,14 +226,14 @@ fn list_parts() {
     }
 }
 
-/// Reading 14: 15 is asked before 16.
+/// 15 is asked before 16.
 #[test]
 fn nothing_to_mark_before_no_room() {
     assert_eq!(lowered(&[X, Y], call(y(), [x()]), Room::records(9, 9, 0)).result[0], 15);
     assert_eq!(lowered(&[X, Y], call(x(), [y()]), Room::records(9, 9, 0)).result[0], 16);
 }
 
-/// Reading 16: register (10), then pool (14), then code (13); and what takes its destination when.
+/// Register (10), then pool (14), then code (13); and what takes its destination when.
 #[test]
 fn order_of_refusals() {
     let names: Vec<u32> = (0..256).collect();
@@ -268,7 +268,7 @@ fn order_of_refusals() {
     assert_eq!(first(&names, if_else(undeclared(), name(), name()), none), 9);
 }
 
-/// Reading 18: the key of a property is pooled after its object is lowered.
+/// The key of a property is pooled after its object is lowered.
 #[test]
 fn keys_are_pooled_late() {
     let answer = lowered(&[X], property(binary(operator::ADD, x(), number(1.0)), 5), ample());
@@ -276,7 +276,7 @@ fn keys_are_pooled_late() {
     assert_eq!(lowered(&[X], map([(x(), Some(z()))]), ample()).result[5], 0);
 }
 
-/// Reading 25: as deep as can be.
+/// Chains as deep as can be.
 #[test]
 fn deep_chains() {
     deep(|| {
@@ -289,7 +289,6 @@ fn deep_chains() {
     });
 }
 
-/// Reading 27.
 #[test]
 fn a_pooled_constant_needs_no_room() {
     let sum = binary(operator::ADD, number(1.0), number(1.0));

@@ -146,7 +146,7 @@ fn odd_lengths_and_numbers() {
     room.holds(&[], &[], &[]);
 }
 
-/// A result place of any length gets the words that fit whole, and no byte past them changes.
+/// A result of any length gets the words that fit whole, and no byte past them changes.
 #[test]
 fn short_result_place() {
     let (rule, wanted) = (without_else(), bytes(&[11, 2, 11, 12, 3, 1, 0, 0]));
