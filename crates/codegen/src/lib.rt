@@ -220,7 +220,7 @@ const UNMARKED: u32 = 15;
 // The last refusal.
 const LAST_REFUSAL: u32 = 19;
 
-// Whether a refusal names a node, whose span is told.
+// Whether a refusal names a node, whose span comes back.
 fn names_node(number: u32) -> bool
     ensures { λ r. ⌜ r ≡ namesNode (refusalOf number) ⌝ }
 {

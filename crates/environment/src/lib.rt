@@ -56,7 +56,7 @@ fn bit_in(i: u32, r: u32) -> u64
     if r / BITS == i { 1u64 << (r % BITS) } else { 0 }
 }
 
-// The word of the registers from `first` on in which those below `arity` are held.
+// The word of the 64 registers from `first` on: those below `arity` are held, the others free.
 fn held_below(arity: u32, first: u32) -> u64
     ensures { λ w. ⌜ w ≡ 2 ^ 64 - 2 ^ min 64 (arity - first) ⌝ }
 {
@@ -105,8 +105,8 @@ impl RegisterSet {
         REGISTERS
     }
 
-    // The set with the bit of register r turned over; a number past the last register changes nothing. The first word, where nearly every
-    // register of a rule is, has a way of its own.
+    // The set with the bit of register r turned over; a number past the last register changes nothing. The first word, which has nearly
+    // every register of a rule, has a branch of its own.
     fn flipped(self, r: u32) -> RegisterSet
         ensures { λ s. ⌜ s ≡ givenBack self r ⌝ }
     {

@@ -65,7 +65,8 @@ const INSTRUCTION_LINE: usize = COLUMN_BYTES * INSTRUCTION_WORDS + 1;
 
 const CONSTANT_LINE: usize = COLUMN_BYTES * CONSTANT_WORDS + 1;
 
-// The longest text that is within the bounds, and a buffer for a text: with one byte more, a text that is too long shows. And the longest listing.
+// The bytes of the longest text within the bounds; of a buffer for a text, one more, so that a text that is too long is not taken for a good one; and of the longest
+// listing.
 const TEXT_BYTES: usize = HEADER_LINE
     + NODE_LINE * MAX_NODES
     + WORD_LINE * MAX_LIST_WORDS
@@ -93,7 +94,7 @@ pub fn listing_buffer() -> [u8; LISTING_BUFFER]
     [0; LISTING_BUFFER]
 }
 
-// Lowers a tree and prints what that leaves. How many bytes that is; those past the end of `out` are left out.
+// Lowers a tree and prints what that leaves. The answer is how many bytes the listing has; those past the end of `out` are left out.
 fn list_tree(nodes: &[u8], root: u32, mode: u32, list: &[u8], names: &[u8], out: &mut [u8]) -> usize
     ensures bytes { λ _. ⌜ now (out .exit) ≡ sets (now (out .entry)) 0 (treeListing (now (nodes .entry)) root mode (now (list .entry)) (now (names .entry))) ⌝ }
     ensures length { λ r. ⌜ r ≡ length (treeListing (now (nodes .entry)) root mode (now (list .entry)) (now (names .entry))) ⌝ }
@@ -115,7 +116,7 @@ fn list_tree(nodes: &[u8], root: u32, mode: u32, list: &[u8], names: &[u8], out:
     write_listing(out, &numbers, &code, &constants)
 }
 
-// The same of the tree that a header tells of, at the start of each buffer.
+// The same for the tree that a header describes, at the start of each buffer.
 fn list_good(h: Header, nodes: &[u8], list: &[u8], names: &[u8], out: &mut [u8]) -> usize
     requires { ⌜ 24 * h .nodes ≤ length (now nodes) ⌝ }
     requires { ⌜ 4 * h .list ≤ length (now list) ⌝ }
@@ -148,7 +149,7 @@ fn list_bad(out: &mut [u8]) -> usize
     write_listing(out, &numbers, &nothing, &nothing)
 }
 
-// Prints the listing of a text, whatever its bytes are. How many bytes that is; those past the end of `out` are left out.
+// Prints the listing of a text, whatever its bytes are. The answer is how many bytes the listing has; those past the end of `out` are left out.
 pub fn list(text: &[u8], out: &mut [u8]) -> usize
     ensures bytes { λ _. ⌜ now (out .exit) ≡ sets (now (out .entry)) 0 (lowerlist (now (text .entry))) ⌝ }
     ensures length { λ r. ⌜ r ≡ length (lowerlist (now (text .entry))) ⌝ }

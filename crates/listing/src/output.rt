@@ -55,8 +55,8 @@ pub fn write_lines(out: &mut [u8], at: usize, width: u8, count: u32, s: &[u8])
     }
 }
 
-// Prints the eight numbers of a result, and as many instructions and constants as the fifth and the sixth of them say. How many bytes that is; those
-// past the end of `out` are left out.
+// Prints the eight numbers of a result, and as many instructions and constants as the fifth and the sixth of them say. The answer is how many bytes
+// that is; those past the end of `out` are left out.
 pub fn write_listing(
     out: &mut [u8],
     numbers: &[u32; RESULT_WORDS],

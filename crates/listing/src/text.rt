@@ -53,7 +53,7 @@ fn byte(s: &[u8], i: usize) -> u8
     if i < s.len() { s[i] } else { 0 }
 }
 
-// Reads the line of `width` columns at `at` into record `place`, up to the first column that is none. Whether it is such a line.
+// Reads the line of `width` columns at `at` into record `place`, up to the first column that is none. The answer is whether it is such a line.
 fn read_line(s: &[u8], at: usize, width: u8, out: &mut [u8], place: u32) -> bool
     ensures words { λ r. ⌜ gives (words (now (out .exit))) r ≡ fill (words (now (out .entry))) (width * place) (readLine width (drop at (now (s .entry)))) ⌝ }
     ensures tail { λ _. ⌜ tail (now (out .exit)) ≡ tail (now (out .entry)) ⌝ }
@@ -75,7 +75,7 @@ fn read_line(s: &[u8], at: usize, width: u8, out: &mut [u8], place: u32) -> bool
     byte(s, at + COLUMN_BYTES * (width as usize)) == LINE_FEED
 }
 
-// Reads the `count` lines of `width` columns that begin at `at`, up to the first fault. Whether they are such lines.
+// Reads the `count` lines of `width` columns that begin at `at`, up to the first fault. The answer is whether they are such lines.
 pub fn read_lines(s: &[u8], at: usize, width: u8, count: u32, out: &mut [u8]) -> bool
     ensures words { λ r. ⌜ gives (words (now (out .exit))) r ≡ fill (words (now (out .entry))) 0 (readLines width count (drop at (now (s .entry)))) ⌝ }
     ensures tail { λ _. ⌜ tail (now (out .exit)) ≡ tail (now (out .entry)) ⌝ }
@@ -153,7 +153,7 @@ fn read_header(s: &[u8]) -> Head
     }
 }
 
-// Reads the nodes, the list words and the parameters that a header tells of, each up to its first fault. Whether there is none.
+// Reads the nodes, the list words and the parameters that a header describes, each up to its first fault. The answer is whether there is none.
 fn read_tables(s: &[u8], h: Header, nodes: &mut [u8], list: &mut [u8], names: &mut [u8]) -> bool
     ensures good { λ r. ⌜ r ≡ (readNodes h (now (s .entry)) .good && readList h (now (s .entry)) .good && readNames h (now (s .entry)) .good) ⌝ }
     ensures nodes { λ _. ⌜ words (now (nodes .exit)) ≡ sets (words (now (nodes .entry))) 0 (readNodes h (now (s .entry)) .words) ⌝ }

@@ -168,7 +168,7 @@ fn children_below(list: &[u8], i: u32, kind: u32, a: u32, b: u32, c: u32) -> boo
     }
 }
 
-// Questions 3 to 7 of node i. Its words are read from its own bytes: of a slice of known length, the compiler leaves the test in `word` out. It also
+// Questions 3 to 7 of node i. Its words are read from its own bytes, a slice of known length: so the compiler leaves the test in `word` out. It also
 // makes one jump of the matches on the kind, so a node costs one jump and the comparisons of its kind, a call and a map too.
 fn check_node(nodes: &[u8], list: &[u8], i: u32) -> Checked
     requires { ⌜ i < capacity nodeWidth (words (now nodes)) ⌝ }

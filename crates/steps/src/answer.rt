@@ -36,7 +36,7 @@ pub const NONE: u32 = 4294967295;
 // Answers from here on are refusals: the test is one of the sign, which the compiler takes for rare.
 const REFUSED: u64 = 0x8000_0000_0000_0000;
 
-// How many words there are.
+// How many values a word has.
 const WORDS: u64 = 4294967296;
 
 // The register of local `number`.
@@ -46,7 +46,7 @@ pub fn local(number: u32) -> u32
     REGISTERS + number % REGISTERS
 }
 
-// The field of an instruction that says the register.
+// The number of a register, as a field of an instruction has it.
 pub fn reg_of(register: u32) -> u32
     ensures { λ r. ⌜ r ≡ regOf (registerAt register) ⌝ }
 {

@@ -1,5 +1,5 @@
-// The end of an operator on two sources, of which one may be LITERAL, the constant: constants pooled, one instruction. On two counts: no register is taken
-// or given back.
+// The end of an operator on two sources. One of them may be LITERAL, a constant: it is pooled, then one instruction is emitted. The functions take two counts and not
+// the state, since no register is taken or given back.
 ghost use mathlib.Core.Path.{_≡_};
 ghost use mathlib.Core.Bool.{false, cond, _&&_};
 ghost use mathlib.Core.List.{List, [], _∷_};

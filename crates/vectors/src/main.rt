@@ -13,7 +13,7 @@ use listing::column::Column;
 use listing::column::read_column;
 use listing::text::LINE_FEED;
 
-// More than the record has. A record that fills it is cut, and its last cases do not agree.
+// More bytes than the record has. A record that fills the buffer is cut, and its last cases do not agree.
 const RECORD_BYTES: usize = 1572864;
 
 // The columns of a case's first line that say how long its text and its answer are.
