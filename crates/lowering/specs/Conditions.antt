@@ -70,8 +70,8 @@ module _ (sense : Bool) (t : Tree) (root : ℕ) (x : Lowered) where
       pub once : (j k p q : ℕ) (P Q : Registers (s .operators)) → j < k → k < n → runTo j ≡ at p P → runTo k ≡ at q Q → p < q
       pub parameters : (k p : ℕ) (P : Registers (s .operators)) → k ≤ n → runTo k ≡ at p P → (r : ℕ) → r < length (t .names) → P r ≡ s .parameters r
 
-    -- "comes to the goal exactly when the tree's value tests false (true), to the place after the code exactly when it tests the other way, and ends
-    -- with the tree's or the test's failure otherwise"; once and parameters at every step
+    -- the run comes to the goal exactly when the tree's value tests as `sense`, to the place after the code exactly when it tests the other way, and ends with a failure
+    -- exactly when that is the tree's or the test's; once and parameters at every step
     pub record Exactly : Type 0 where
       pub to-goal : (testOf s ≡ worth sense) ↔ ((n : ℕ) × (R : Registers (s .operators)) × (runTo n ≡ at (g .place) R))
       pub to-behind : (testOf s ≡ worth (not sense)) ↔ ((n : ℕ) × (R : Registers (s .operators)) × (runTo n ≡ at behind R))

@@ -37,7 +37,7 @@ pub record Stored (ws : List ℕ) (count : ℕ) (c : Operand) (after : Buffer) (
   -- if it was pooled already, nothing has changed; if not, there is one more
   pub grows : ((p < count) × (after .words ≡ ws) × (after .answer .count ≡ count)) ⊎ ((p ≡ count) × (after .answer .count ≡ count + 1) × Unpooled ws c count)
 
--- "Does the code buffer have place for the next instruction, with fewer than 1,048,576 made? The constant buffer for a new constant?", answered no:
+-- "Does the code buffer have place for the next instruction, with fewer than 1,048,576 made? [..] The constant buffer for a new constant?", answered no:
 -- records of w words, and `limit` the most that may be made
 pub record Full (w : ℕ) (ws : List ℕ) (count limit : ℕ) (after : Buffer) : Type 0 where
   -- nothing has changed

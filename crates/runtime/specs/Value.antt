@@ -13,7 +13,7 @@ use Rattle.runtime.specs.declared.operand.Operand.{Operand}
 abbrev pub constantWidth : ℕ
 constantWidth = 3
 
--- "number: low word, high word of the binary64 bits"
+-- a number: "low word, high word of the binary64 bits"
 unfoldable pub numberOf : ℕ → ℕ → Float
 numberOf low high = ofBits binary64 (4294967296 * high + low)
 
