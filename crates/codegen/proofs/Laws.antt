@@ -30,7 +30,8 @@ use Rattle.lowering.proofs.Destinations.{patch-refusals}
 use Rattle.steps.specs.Answers.{placeAt, refusalWord, refusalOf, namesNode, errorAt, settle, settled, seen, isRefusal, valueOf, numberOfRefusal, wordEnd}
 use Rattle.steps.proofs.Chains.{seen-word, seen-refusal}
 use Rattle.codegen.specs.Ready.{Ready}
-use Rattle.codegen.specs.Numbers.{refusedResult, conditional}
+use Rattle.result.specs.Numbers.{refusedResult}
+use Rattle.codegen.specs.Roots.{conditional}
 use Rattle.codegen.proofs.Lent.{lent-words, lent-back}
 
 -- the root, by its mode
@@ -68,35 +69,6 @@ pub numbered : (arity : ℕ) (o : Outcome ℕ) → definition.answered arity (se
 unfolding definition.answered settled
 numbered arity (ends p m) = refl
 numbered arity (stops e m) = refl
-
--- past the last number it is the last refusal
-pub past : (n : ℕ) → 20 ≤ n → refusalOf n ≡ Refusal.Jump
-unfolding refusalOf
-past n h =
-    List·getD-eq-default
-    (Refusal.Size ∷ Refusal.Size ∷ Refusal.Root ∷ Refusal.Kind ∷ Refusal.Unused ∷ Refusal.Number ∷ Refusal.List ∷ Refusal.Order ∷ Refusal.Parameters
-    ∷ Refusal.Undeclared ∷ Refusal.Registers ∷ Refusal.Else ∷ Refusal.Key ∷ Refusal.Code ∷ Refusal.Constants ∷ Refusal.Unmarked ∷ Refusal.Marks
-    ∷ Refusal.Destination ∷ Refusal.Sum ∷ Refusal.Jump ∷ [])
-    Refusal.Jump h
-
--- the eight numbers of a refusal, and of a place
-module _ (arity : ℕ) (t : Tree) (m : Made) (a : ℕ) where
-  pub result-refused : {number place start end : ℕ} → isRefusal a ≡ true → number ≡ refusalNumber (refusalOf (numberOfRefusal a)) → place ≡ valueOf a →
-      start ≡ cond (namesNode (refusalOf (numberOfRefusal a))) (spanStart t (valueOf a)) 0 → end ≡ cond (namesNode (refusalOf (numberOfRefusal a))) (spanEnd t (valueOf a)) 0 →
-      definition.result number place start end (m .state .instructions) (m .state .constants) 0 0 ≡ definition.answered arity (seen t placeAt m a) .result
-  unfolding definition.answered seen errorAt
-  result-refused h n p s e = rw (h, n, p, s, e) (go (namesNode (refusalOf (numberOfRefusal a))))
-    where
-      go : (b : Bool) →
-          definition.result (refusalNumber (refusalOf (numberOfRefusal a))) (valueOf a) (cond b (spanStart t (valueOf a)) 0) (cond b (spanEnd t (valueOf a)) 0) (m .state .instructions) (m .state .constants) 0 0
-          ≡ definition.answered arity (stops (cond b (error (refusalOf (numberOfRefusal a)) (valueOf a) (spanStart t (valueOf a)) (spanEnd t (valueOf a))) (error (refusalOf (numberOfRefusal a)) (valueOf a) 0 0)) (settle m)) .result
-      go true = refl
-      go false = refl
-
-  pub result-placed : {place : ℕ} → isRefusal a ≡ false → place ≡ valueOf a →
-      definition.result 0 place 0 0 (m .state .instructions) (m .state .constants) (m .state .registers .«frame_size») arity ≡ definition.answered arity (seen t placeAt m a) .result
-  unfolding definition.answered seen
-  result-placed h p = rw (h, p)
 
 -- the buffers are those that are seen
 buffers : (arity : ℕ) (t : Tree) (m : Made) (a : ℕ) →

@@ -33,8 +33,8 @@ use Rattle.lowering.proofs.Walk.FrameSize as frame
 use Rattle.lowering.proofs.Walk.PoolOfLower as reached
 use Rattle.lowering.proofs.Running.Accepted as law
 use Rattle.lowering.proofs.Running.ConditionLaw as conditions
-use Rattle.codegen.specs.declared.Result.{Result}
-use Rattle.codegen.specs.Numbers.{numbers}
+use Rattle.result.specs.declared.Result.{Result}
+use Rattle.result.specs.Numbers.{numbers}
 use Rattle.codegen.specs.Laws.{Bytes, markCount, Unwritten, Beyond, Lifetimes}
 use Rattle.codegen.proofs.lower.Reads as reads
 use Rattle.codegen.proofs.Stored as stored

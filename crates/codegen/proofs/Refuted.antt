@@ -26,7 +26,7 @@ use Rattle.lowering.specs.Result.{Lowered, result, begin, lowerRoot, answered, 
 use Rattle.lowering.specs.Pool.{Pool}
 use Rattle.lowering.specs.Examples.{pageNodes, pageWith}
 use Rattle.lowering.proofs.Walk.Refuted.{walked}
-use Rattle.codegen.specs.declared.Result.{Result}
+use Rattle.result.specs.declared.Result.{Result}
 use Rattle.codegen.specs.Laws.{Beyond, Unwritten}
 use Rattle.codegen.proofs.Stored.{pool-shows}
 

@@ -6,7 +6,7 @@ use lib.ListN.{length, getD}
 use Rattle.words.specs.Words.{words}
 use Rattle.runtime.specs.Function.{maxInstructions}
 use Rattle.lowering.specs.Answers as answers
-use Rattle.codegen.specs.declared.Result.{Result}
+use Rattle.result.specs.declared.Result.{Result}
 
 -- a slice's bytes are below 256
 abbrev pub Bytes : List ℕ → Type 0

@@ -1,5 +1,5 @@
 pub mod Ready
 pub mod Kinds
 pub mod Flat
-pub mod Numbers
+pub mod Roots
 pub mod Laws

@@ -4,20 +4,18 @@ mod lower_expression;
 mod read;
 
 ghost use mathlib.Core.Path.{_≡_};
-ghost use mathlib.Core.Bool.{cond};
 ghost use mathlib.Core.List.{List, _++_};
 ghost use Prim.Native.Nat.{ℕ, _<_};
-ghost use Rattle.diagnostics.specs.Refusal.{refusalNumber};
 ghost use Rattle.words.specs.Words.{words, tail, bytesOf};
-ghost use Rattle.syntax.specs.Ast.{nodeWord};
 ghost use Rattle.lowering.specs.Tree.{Tree, treeOf};
 ghost use Rattle.lowering.specs.Questions.{passed, questions};
 ghost use Rattle.lowering.specs.Walk.{made, bind, ret};
 ghost use Rattle.lowering.specs.Steps.{freeTemp, patchArguments};
-ghost use Rattle.lowering.specs.Result.{numbersOf, answered, lowerRoot, lower};
-ghost use Rattle.steps.specs.Answers.{placeAt, refusalOf, namesNode, settled, seen};
+ghost use Rattle.lowering.specs.Result.{lowerRoot, lower};
+ghost use Rattle.steps.specs.Answers.{placeAt, settled, seen};
 ghost use Rattle.codegen.specs.Ready.{InArena, Ready, Lowers};
-ghost use Rattle.codegen.specs.Numbers.{numbers, refusedResult, conditional};
+ghost use Rattle.result.specs.Numbers.{numbers};
+ghost use Rattle.codegen.specs.Roots.{conditional};
 use crate::flat::REGISTER;
 use crate::flat::peek;
 use crate::lower_expression::lower_jump_if;
@@ -26,51 +24,23 @@ use diagnostics::Refusal;
 use environment::RegisterSet;
 use lower_ast::Patched;
 use lower_ast::patch_arguments;
-use lowering::RESULT_WORDS;
 use lowering::State;
 use questions::check::Checked;
 use questions::check::check;
+use result::Result;
+use result::refused_result;
+use result::result_of;
 use runtime::function::emit_instruction;
 use runtime::opcode;
 use steps::answer::ANY;
 use steps::answer::Lowered;
 use steps::answer::answered;
 use steps::answer::is_refusal;
-use steps::answer::number_of;
 use steps::answer::refused;
 use steps::answer::reg_of;
 use steps::answer::value_of;
-use syntax::ast::node_word;
 use words::FULL;
 use words::counted;
-
-// The eight numbers that come back.
-pub struct Result {
-    pub number: u32,
-    pub place: u32,
-    pub start: u32,
-    pub end: u32,
-    pub instructions: u32,
-    pub constants: u32,
-    pub frame_size: u32,
-    pub arity: u32,
-}
-
-// The eight numbers, in document 01's order.
-pub fn numbers_of(r: Result) -> [u32; RESULT_WORDS]
-    ensures { λ n. ⌜ n ≡ numbersOf (numbers r) ⌝ }
-{
-    [
-        r.number,
-        r.place,
-        r.start,
-        r.end,
-        r.instructions,
-        r.constants,
-        r.frame_size,
-        r.arity,
-    ]
-}
 
 // The arguments patched, and then the answer.
 fn patched(code: &mut [u8], marks: &[u8], state: State, place: u32) -> Lowered
@@ -189,97 +159,6 @@ fn lower_root(
             root,
             true,
         ),
-    }
-}
-
-// Nothing was made: a question was answered no.
-fn refused_result(refusal: Refusal, place: u32) -> Result
-    ensures { λ r. ⌜ numbers r ≡ refusedResult refusal place ⌝ }
-{
-    Result {
-        number: refusal.number(),
-        place,
-        start: 0,
-        end: 0,
-        instructions: 0,
-        constants: 0,
-        frame_size: 0,
-        arity: 0,
-    }
-}
-
-// The numbers of the refusals that name a node.
-const UNDECLARED: u32 = 9;
-
-const ELSE: u32 = 11;
-
-const KEY: u32 = 12;
-
-const UNMARKED: u32 = 15;
-
-// The last refusal.
-const LAST_REFUSAL: u32 = 19;
-
-// Whether a refusal names a node, whose span comes back.
-fn names_node(number: u32) -> bool
-    ensures { λ r. ⌜ r ≡ namesNode (refusalOf number) ⌝ }
-{
-    (number == UNDECLARED) | (number == ELSE) | (number == KEY) | (number == UNMARKED)
-}
-
-// The number of the refusal that a number stands for: 1 to 19 stand for themselves.
-fn refusal_number(number: u32) -> u32
-    ensures { λ r. ⌜ r ≡ refusalNumber (refusalOf number) ⌝ }
-{
-    if number == 0 {
-        return 1;
-    }
-    if number < LAST_REFUSAL {
-        return number;
-    }
-    LAST_REFUSAL
-}
-
-// A word of the span of the node that a refusal names; 0 if it names none.
-fn span_word(nodes: &[u8], number: u32, place: u32, k: u32) -> u32
-    ensures { λ r. ⌜ r ≡ cond (namesNode (refusalOf number)) (nodeWord (words (now (nodes .entry))) place k) 0 ⌝ }
-{
-    if names_node(number) {
-        return node_word(nodes, place, k);
-    }
-    0
-}
-
-// The numbers of what was made. On a refusal the last two are 0, and the span is that of the node that it names.
-fn result_of(nodes: &[u8], lowered: Lowered, arity: u32) -> Result
-    ensures { λ r. ⌜ ((list names k p m : List ℕ) → numbers r ≡ answered arity (seen (treeOf (now (nodes .entry)) list names) placeAt (made k p m (lowered .state)) (lowered .answer)) .result) ⌝ }
-{
-    let s = lowered.state;
-    let registers = s.registers;
-    let a = lowered.answer;
-    let place = value_of(a);
-    if is_refusal(a) {
-        let number = number_of(a);
-        return Result {
-            number: refusal_number(number),
-            place,
-            start: span_word(nodes, number, place, 4),
-            end: span_word(nodes, number, place, 5),
-            instructions: s.instructions,
-            constants: s.constants,
-            frame_size: 0,
-            arity: 0,
-        };
-    }
-    Result {
-        number: 0,
-        place,
-        start: 0,
-        end: 0,
-        instructions: s.instructions,
-        constants: s.constants,
-        frame_size: registers.frame_size,
-        arity,
     }
 }
 

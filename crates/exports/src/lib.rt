@@ -5,8 +5,8 @@ ghost use lib.Seq.{sets};
 ghost use Rattle.words.specs.Words.{words, tail, bytesOf};
 ghost use Rattle.lowering.specs.Result.{numbersOf, lower, patchJump};
 use codegen::lower;
-use codegen::numbers_of;
 use lower_ast::patch_jump;
+use result::numbers_of;
 use words::put_words;
 
 // `lower`, with the eight numbers in `result`, a word each: those for which it has no room are left out, and no byte past the eighth word changes.

@@ -15,8 +15,8 @@ use Rattle.runtime.specs.Instruction.{instructionWidth}
 use Rattle.runtime.specs.Value.{constantWidth}
 use Rattle.lowering.specs.Result.{numbersOf, Lowered, lower}
 use Rattle.lowering.proofs.Walk.Answers.{nothing-beyond}
-use Rattle.codegen.specs.declared.Result.{Result}
-use Rattle.codegen.specs.Numbers.{numbers}
+use Rattle.result.specs.declared.Result.{Result}
+use Rattle.result.specs.Numbers.{numbers}
 use Rattle.codegen.specs.Laws.{Bytes}
 use Rattle.codegen.proofs.Width.{exact-words}
 use Rattle.listing.specs.declared.text.Header.{Header}

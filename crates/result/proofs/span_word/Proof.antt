@@ -1,8 +1,8 @@
--- `codegen::span_word` meets its contract. Assumes nothing.
+-- `result::span_word` meets its contract. Assumes nothing.
 use mathlib.Core.Path.{sym, _∙_}
 use borrow.Author.Needs.{needs}
-use Rattle.codegen.proofs.span_word.Statement.{statement}
-use Rattle.codegen.proofs.span_word.Tie as tie
+use Rattle.result.proofs.span_word.Statement.{statement}
+use Rattle.result.proofs.span_word.Tie as tie
 
 returns : tie.Need-returns
 returns c =

@@ -1,4 +1,4 @@
--- `codegen::names_node` meets its contract. Assumes nothing.
+-- `result::names_node` meets its contract. Assumes nothing.
 use Prim.Native.Nat.{ℕ, suc, zero, _≤_}
 use mathlib.Core.Path.{_≡_, refl}
 use native.Mathlib.Omega.{arith}
@@ -6,9 +6,9 @@ use mathlib.Core.Bool.{_||_}
 use lib.Dec.{eqb}
 use borrow.Author.Tests.{ne-eqb}
 use Rattle.steps.specs.Answers.{refusalOf, namesNode}
-use Rattle.codegen.proofs.Laws.{past}
-use Rattle.codegen.proofs.names_node.Statement.{statement}
-use Rattle.codegen.proofs.names_node.Tie as tie
+use Rattle.result.proofs.Laws.{past}
+use Rattle.result.proofs.names_node.Statement.{statement}
+use Rattle.result.proofs.names_node.Tie as tie
 
 -- a number past the last names no node
 later : (n : ℕ) → 20 ≤ n → (((eqb n 9 || eqb n 11) || eqb n 12) || eqb n 15) ≡ namesNode (refusalOf n)

@@ -1,7 +1,7 @@
--- `codegen::refused_result` meets its contract. Assumes nothing.
+-- `result::refused_result` meets its contract. Assumes nothing.
 use borrow.Author.Needs.{needs}
-use Rattle.codegen.proofs.refused_result.Statement.{statement}
-use Rattle.codegen.proofs.refused_result.Tie as tie
+use Rattle.result.proofs.refused_result.Statement.{statement}
+use Rattle.result.proofs.refused_result.Tie as tie
 
 number-requires : tie.Need-number-requires
 number-requires c κs = search needs

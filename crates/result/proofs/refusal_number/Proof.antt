@@ -1,4 +1,4 @@
--- `codegen::refusal_number` meets its contract. Assumes nothing.
+-- `result::refusal_number` meets its contract. Assumes nothing.
 use Prim.Native.Nat.{ℕ, zero, suc, _<_, _≤_}
 use mathlib.Core.Path.{_≡_, refl, sym, ap}
 use mathlib.Core.Logic.{_≢_}
@@ -6,9 +6,9 @@ use native.Mathlib.Omega.{arith}
 use native.Mathlib.Decide.{ℕ-discrete}
 use Rattle.diagnostics.specs.Refusal.{refusalNumber}
 use Rattle.steps.specs.Answers.{refusalOf}
-use Rattle.codegen.proofs.Laws.{past}
-use Rattle.codegen.proofs.refusal_number.Statement.{statement}
-use Rattle.codegen.proofs.refusal_number.Tie as tie
+use Rattle.result.proofs.Laws.{past}
+use Rattle.result.proofs.refusal_number.Statement.{statement}
+use Rattle.result.proofs.refusal_number.Tie as tie
 
 same : (n : ℕ) → n ≢ 0 → n < 19 → n ≡ refusalNumber (refusalOf n)
 unfolding refusalOf

@@ -1,11 +1,11 @@
--- `codegen::result_of` meets its contract. Assumes nothing.
+-- `result::result_of` meets its contract. Assumes nothing.
 use mathlib.Core.Path.{_∙_, sym, ap}
 use borrow.Author.Needs.{needs}
 use Rattle.diagnostics.specs.Refusal.{refusalNumber}
 use Rattle.steps.specs.Answers.{refusalOf}
-use Rattle.codegen.proofs.Laws.{result-refused, result-placed}
-use Rattle.codegen.proofs.result_of.Statement.{statement}
-use Rattle.codegen.proofs.result_of.Tie as tie
+use Rattle.result.proofs.Laws.{result-refused, result-placed}
+use Rattle.result.proofs.result_of.Statement.{statement}
+use Rattle.result.proofs.result_of.Tie as tie
 
 returns : tie.Need-returns
 returns c =
