@@ -63,23 +63,14 @@ pub fn refused_result(refusal: Refusal, place: u32) -> Result
     }
 }
 
-// The numbers of the refusals that name a node.
-const UNDECLARED: u32 = 9;
-
-const ELSE: u32 = 11;
-
-const KEY: u32 = 12;
-
-const UNMARKED: u32 = 15;
-
-// The last refusal.
-const LAST_REFUSAL: u32 = 19;
-
 // Whether a refusal names a node, whose span is told.
 fn names_node(number: u32) -> bool
     ensures { λ r. ⌜ r ≡ namesNode (refusalOf number) ⌝ }
 {
-    (number == UNDECLARED) | (number == ELSE) | (number == KEY) | (number == UNMARKED)
+    (number == Refusal::Undeclared.number())
+        | (number == Refusal::Else.number())
+        | (number == Refusal::Key.number())
+        | (number == Refusal::Unmarked.number())
 }
 
 // The number of the refusal that a number stands for: 1 to 19 stand for themselves.
@@ -87,12 +78,12 @@ fn refusal_number(number: u32) -> u32
     ensures { λ r. ⌜ r ≡ refusalNumber (refusalOf number) ⌝ }
 {
     if number == 0 {
-        return 1;
+        return Refusal::Size.number();
     }
-    if number < LAST_REFUSAL {
+    if number < Refusal::Jump.number() {
         return number;
     }
-    LAST_REFUSAL
+    Refusal::Jump.number()
 }
 
 // A word of the span of the node that a refusal names; 0 if it names none.

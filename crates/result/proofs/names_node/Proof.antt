@@ -4,6 +4,7 @@ use mathlib.Core.Path.{_≡_, refl}
 use native.Mathlib.Omega.{arith}
 use mathlib.Core.Bool.{_||_}
 use lib.Dec.{eqb}
+use borrow.Author.Needs.{needs}
 use borrow.Author.Tests.{ne-eqb}
 use Rattle.steps.specs.Answers.{refusalOf, namesNode}
 use Rattle.result.proofs.Laws.{past}
@@ -42,7 +43,8 @@ by-number (suc (suc (suc (suc (suc (suc (suc (suc (suc (suc (suc (suc (suc (suc 
 by-number (suc (suc (suc (suc (suc (suc (suc (suc (suc (suc (suc (suc (suc (suc (suc (suc (suc (suc (suc (suc n)))))))))))))))))))) = later (suc (suc (suc (suc (suc (suc (suc (suc (suc (suc (suc (suc (suc (suc (suc (suc (suc (suc (suc (suc n)))))))))))))))))))) (omega arith)
 
 returns : tie.Need-returns
-returns c = by-number _
+returns c =
+    rw (c .before .before .before .number .ensures, c .before .before .number2 .ensures, c .before .number3 .ensures, c .number4 .ensures) (by-number _)
 
 pub names-node-spec : {M : Type 1} → statement M
-names-node-spec = tie.close (tie.spec returns)
+names-node-spec = tie.close (tie.spec (λ c κs. search needs) (λ c κs. search needs) (λ c κs. search needs) (λ c κs. search needs) returns)

@@ -4,6 +4,7 @@ use mathlib.Core.Path.{_≡_, refl, sym, ap}
 use mathlib.Core.Logic.{_≢_}
 use native.Mathlib.Omega.{arith}
 use native.Mathlib.Decide.{ℕ-discrete}
+use borrow.Author.Needs.{needs}
 use Rattle.diagnostics.specs.Refusal.{refusalNumber}
 use Rattle.steps.specs.Answers.{refusalOf}
 use Rattle.result.proofs.Laws.{past}
@@ -43,13 +44,13 @@ last n h = go (ℕ-discrete n 19)
 
 returns : tie.Need-returns
 unfolding refusalOf
-returns c = rw (c .if1 .taken)
+returns c = rw (c .number .ensures, c .before .if1 .taken)
 
 returns-2 : tie.Need-returns-2
-returns-2 c = same _ (c .before .if1 .left) (c .if2 .taken)
+returns-2 c = same _ (c .before .before .if1 .left) (rw (c .before .number2 .ensures) at (c .if2 .taken))
 
 returns-3 : tie.Need-returns-3
-returns-3 c = last _ (c .if2 .left)
+returns-3 c = rw (c .number3 .ensures) (last _ (rw (c .before .before .number2 .ensures) at (c .before .if2 .left)))
 
 pub refusal-number-spec : {M : Type 1} → statement M
-refusal-number-spec = tie.close (tie.spec returns returns-2 returns-3)
+refusal-number-spec = tie.close (tie.spec (λ c κs. search needs) returns (λ c κs. search needs) returns-2 (λ c κs. search needs) returns-3)
