@@ -63,7 +63,7 @@ pub fn refused_result(refusal: Refusal, place: u32) -> Result
     }
 }
 
-// Whether a refusal names a node, whose span is told.
+// Whether a refusal names a node, whose span comes back.
 fn names_node(number: u32) -> bool
     ensures { λ r. ⌜ r ≡ namesNode (refusalOf number) ⌝ }
 {
