@@ -4,17 +4,18 @@ use Prim.Native.Nat.{ℕ, zero, suc, _+_, _-_, _≤_, _<_}
 use native.Mathlib.Omega.{arith}
 use native.Mathlib.Decide.{ℕ-discrete, decLe}
 use native.Mathlib.Numerals.{add-one, unary-clauses}
-use mathlib.Core.Path.{_≡_, refl, sym, ap, ap₂, _∙_}
+use mathlib.Core.Path.{_≡_, refl, sym, ap, _∙_}
 use mathlib.Core.List.{List, [], _∷_}
 use mathlib.Core.Bool.{Bool, true, false, false≢true, cond}
 use lib.Dec.{eqb}
 use lib.ListN.{length, getD, drop, drop-of-length-le}
 use lib.Seq.{drop-cons, drop-drop}
-use borrow.Author.Tests.{eqb-true, eq-eqb, ne-eqb, le-leb, lt-leb}
+use borrow.Author.Tests.{ne-eqb, le-leb, lt-leb}
+use Rattle.words.specs.Records.{sameWords}
+use Rattle.words.proofs.Search.{same-equal, equal-same}
 use Rattle.listing.specs.Text.{lineFeed}
-use Rattle.listing.proofs.Columns.{and-true}
 use Rattle.vectors.specs.declared.Case.{Case}
-use Rattle.vectors.specs.Answers.{hash, lineLength, lineEnd, commentsLength, commentsEnd, caseAt, casesTold, firstAt, casesFrom, sameBytes, agrees, agreeing, differing, endOf, outcome}
+use Rattle.vectors.specs.Answers.{hash, lineLength, lineEnd, commentsLength, commentsEnd, caseAt, casesTold, firstAt, casesFrom, agrees, agreeing, differing, endOf, outcome}
 
 -- ---- lines
 
@@ -91,27 +92,13 @@ module _ (s : List ℕ) (at : ℕ) where
 
 -- ---- bytes
 
-same-self : (s : List ℕ) → sameBytes s s ≡ true
-unfolding sameBytes
-same-self [] = refl
-same-self (b ∷ s) = rw (eq-eqb b b refl) (same-self s)
-
-same-only : (s t : List ℕ) → sameBytes s t ≡ true → s ≡ t
-unfolding sameBytes
-same-only [] [] e = refl
-same-only [] (c ∷ t) e = absurd (false≢true e)
-same-only (b ∷ s) [] e = absurd (false≢true e)
-same-only (b ∷ s) (c ∷ t) e =
-    let both = and-true (eqb b c) (sameBytes s t) e in
-    ap₂ _∷_ (eqb-true b c (both .0)) (same-only s t (both .1))
-
--- whoever says true of equal lists, and of no others, says what `sameBytes` does
-pub same-bytes : (s t : List ℕ) (r : Bool) → (r ≡ true → s ≡ t) → (s ≡ t → r ≡ true) → r ≡ sameBytes s t
-same-bytes s t true only all = sym (rw (only refl) (same-self t))
-same-bytes s t false only all = go (sameBytes s t) refl
+-- whoever says true of equal lists, and of no others, says what `sameWords` does
+pub same-words : (s t : List ℕ) (r : Bool) → (r ≡ true → s ≡ t) → (s ≡ t → r ≡ true) → r ≡ sameWords s t
+same-words s t true only all = sym (rw (only refl) (equal-same t))
+same-words s t false only all = go (sameWords s t) refl
   where
-    go : (b : Bool) → sameBytes s t ≡ b → false ≡ sameBytes s t
-    go true e = absurd (false≢true (all (same-only s t e)))
+    go : (b : Bool) → sameWords s t ≡ b → false ≡ sameWords s t
+    go true e = absurd (false≢true (all (same-equal s t e)))
     go false e = sym e
 
 -- ---- cases

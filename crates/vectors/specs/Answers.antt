@@ -2,15 +2,20 @@
 -- the start of the record s.
 use Prim.Native.Nat.{ℕ, zero, suc, _+_, _-_, _*_}
 use mathlib.Core.List.{List, [], _∷_}
-use mathlib.Core.Bool.{Bool, true, false, cond, _&&_}
+use mathlib.Core.Bool.{Bool, true, false, cond}
 use lib.Dec.{leb, eqb}
 use lib.ListN.{length, take, drop}
+use Rattle.words.specs.Records.{sameWords}
 use Rattle.listing.specs.declared.column.Column.{Column}
 use Rattle.listing.specs.Column.{columnBytes, readColumn}
 use Rattle.listing.specs.Text.{lineFeed}
 use Rattle.listing.specs.Output.{lowerlist}
 use Rattle.vectors.specs.declared.Case.{Case}
 use Rattle.vectors.specs.declared.Outcome.{Outcome}
+
+-- the bytes of the program's buffer for a record
+abbrev pub recordBytes : ℕ
+recordBytes = 1572864
 
 -- ---- the layout: lines that begin with '#'; a line with the number of cases; the cases
 
@@ -88,20 +93,13 @@ cases s = casesFrom (casesTold s) s (firstAt s)
 
 -- ---- the replay
 
--- whether two lists of bytes are the same
-unfoldable pub sameBytes : List ℕ → List ℕ → Bool
-sameBytes [] [] = true
-sameBytes [] (c ∷ t) = false
-sameBytes (b ∷ s) [] = false
-sameBytes (b ∷ s) (c ∷ t) = eqb b c && sameBytes s t
-
 -- the bytes of s from one place up to another
 abbrev pub part : List ℕ → ℕ → ℕ → List ℕ
 part s from to = take (to - from) (drop from s)
 
 -- whether the answer of a case is what its text prints
 unfoldable pub agrees : List ℕ → Case → Bool
-agrees s c = sameBytes (lowerlist (part s (c .text) (c .answer))) (part s (c .answer) (c .next))
+agrees s c = sameWords (lowerlist (part s (c .text) (c .answer))) (part s (c .answer) (c .next))
 
 -- of cases, given by where their lines begin: how many agree
 unfoldable pub agreeing : List ℕ → List ℕ → ℕ

@@ -2,8 +2,9 @@
 ghost use mathlib.Core.Path.{_≡_};
 ghost use Prim.Native.Nat.{_≤_};
 ghost use lib.ListN.{length};
+ghost use Rattle.words.specs.Records.{sameWords};
 ghost use Rattle.listing.specs.Output.{lowerlist};
-ghost use Rattle.vectors.specs.Answers.{lineEnd, commentsEnd, number, caseAt, sameBytes, outcome};
+ghost use Rattle.vectors.specs.Answers.{recordBytes, lineEnd, commentsEnd, number, caseAt, outcome};
 use check::same;
 use libc::STDOUT_FILENO;
 use lister::list;
@@ -38,7 +39,7 @@ struct Outcome {
 
 // Whether `answer` is the listing of `text`.
 fn agrees(text: &[u8], answer: &[u8]) -> bool
-    ensures { λ r. ⌜ r ≡ sameBytes (lowerlist (now (text .entry))) (now (answer .entry)) ⌝ }
+    ensures { λ r. ⌜ r ≡ sameWords (lowerlist (now (text .entry))) (now (answer .entry)) ⌝ }
 {
     let mut out = listing_buffer();
     let printed = list(text, &mut out);
@@ -154,7 +155,7 @@ fn report(answers: &[u8], r: Outcome)
 
 // Zeros, for the record. The `ensures` gives only the length, which lending the array as a slice needs.
 fn buffer() -> [u8; RECORD_BYTES]
-    ensures { λ r. ⌜ 1572864 ≡ length r ⌝ }
+    ensures { λ r. ⌜ recordBytes ≡ length r ⌝ }
 {
     [0; RECORD_BYTES]
 }

@@ -2,7 +2,7 @@
 use mathlib.Core.Path.{sym, _∙_}
 use lib.Seq.{length-take-le}
 use Rattle.lister.proofs.Laws.{listing-room, listed}
-use Rattle.vectors.proofs.Laws.{same-bytes}
+use Rattle.vectors.proofs.Laws.{same-words}
 use borrow.Author.Needs.{needs}
 use Rattle.vectors.proofs.agrees.Statement.{statement}
 use Rattle.vectors.proofs.agrees.Tie as tie
@@ -31,7 +31,7 @@ returns c =
     let listing = c .before .before .before .list .ensures in
     let whole = listed _ _ (listing .1) (listing .0) (sym (c .before .before .before .before .before .listing-buffer .ensures .0)) in
     let told = rw whole at (c .same .ensures) in
-    same-bytes _ _ _ (told .0) (told .1)
+    same-words _ _ _ (told .0) (told .1)
 
 pub agrees-spec : {M : Type 1} → statement M
 agrees-spec =
