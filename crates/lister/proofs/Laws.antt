@@ -5,6 +5,7 @@ use mathlib.Core.List.{List, [], _∷_, _++_}
 use mathlib.Core.Option.{none}
 use Prim.Native.Nat.{ℕ, zero, suc, _+_, _*_, _≤_, _<_}
 use native.Mathlib.Omega.{arith}
+use native.Mathlib.Nat.{mul-le-mul-left, mul-div-right}
 use native.Mathlib.Decide.{decLt}
 use lib.ListN.{length, take, drop, replicate, length-replicate}
 use lib.Seq.{sets, sets-eq, take-at, take-all, length-take-le}
@@ -21,12 +22,12 @@ use Rattle.codegen.specs.Laws.{Bytes}
 use Rattle.codegen.proofs.Width.{exact-words}
 use Rattle.listing.specs.declared.text.Header.{Header}
 use Rattle.listing.specs.declared.text.Head.{Head}
-use Rattle.listing.specs.Text.{nodesBound, listWordsBound, parametersBound, longestText, listWidth, nameWidth, readHeader, readNodes, readList, readNames, readText, filled}
-use Rattle.listing.specs.Output.{instructionsBound, constantsBound, marksBound, longestListing, printed, listing, printTree, lowerlist}
+use Rattle.listing.specs.Text.{lineBytes, nodesBound, listWordsBound, parametersBound, longestText, listWidth, nameWidth, readHeader, readNodes, readList, readNames, readText, filled}
+use Rattle.listing.specs.Output.{resultWidth, instructionsBound, constantsBound, marksBound, longestListing, printed, listing, printTree, lowerlist}
 use Rattle.listing.proofs.Written.{printed-length}
 use Rattle.listing.proofs.Only.{text-only}
 use Rattle.listing.proofs.Program.{zero-words, length-zeros, text-bounds, nodes-bytes, list-bytes, names-bytes, lowered-prints, good-prints, bad-prints}
-use Rattle.lister.specs.Lister.{treeListing}
+use Rattle.lister.specs.Lister.{wordBytes, nodesBytes, listBytes, namesBytes, treeListing}
 
 zero-bytes : (n : ℕ) → Bytes (replicate n 0)
 zero-bytes zero zero = omega arith
@@ -34,12 +35,13 @@ zero-bytes zero (suc i) = omega arith
 zero-bytes (suc n) zero = omega arith
 zero-bytes (suc n) (suc i) = zero-bytes n i
 
+-- a buffer of zeros, for n words
+abbrev zeros : ℕ → List ℕ
+zeros n = replicate (wordBytes * n) 0
+
 -- ---- a tree
 
 module _ (nodes : List ℕ) (bytes : Bytes nodes) (root mode : ℕ) (list names : List ℕ) where
-  abbrev zeros : ℕ → List ℕ
-  zeros n = replicate (4 * n) 0
-
   abbrev left : ℕ → ℕ → ℕ → Lowered
   left i k m = lower nodes root mode list names (words (zeros i)) (words (zeros k)) (words (zeros m))
 
@@ -53,7 +55,7 @@ module _ (nodes : List ℕ) (bytes : Bytes nodes) (root mode : ℕ) (list names 
   unfolding listing
   lowered-listing i k m r {code} {constants} {marks} a b c d =
       let same : came r code constants marks ≡ left i k m =
-      exact-words nodes root mode list names (zeros i) (zeros k) (zeros m) bytes (zero-bytes (4 * i)) (zero-bytes (4 * k)) (zero-bytes (4 * m)) (numbers r) code constants marks a b c d in
+      exact-words nodes root mode list names (zeros i) (zeros k) (zeros m) bytes (zero-bytes (wordBytes * i)) (zero-bytes (wordBytes * k)) (zero-bytes (wordBytes * m)) (numbers r) code constants marks a b c d in
       let zero : left i k m ≡ lower nodes root mode list names (replicate i 0) (replicate k 0) (replicate m 0) = rw (zero-words i, zero-words k, zero-words m) in
       ap listing (same ∙ zero)
 
@@ -73,29 +75,30 @@ module _ (nodes : List ℕ) (bytes : Bytes nodes) (root mode : ℕ) (list names 
 module _ (s : List ℕ) (h : Header) (e : readText s ≡ Head.Good h) where
   -- the tree that the header tells of has place in buffers of a, b and c bytes
   pub record Fits (a b c : ℕ) : Type 0 where
-    pub nodes-fit : 24 * h .nodes ≤ a
-    pub list-fits : 4 * h .list ≤ b
-    pub names-fit : 4 * h .names ≤ c
+    pub nodes-fit : nodesBytes h ≤ a
+    pub list-fits : listBytes h ≤ b
+    pub names-fit : namesBytes h ≤ c
 
-  pub fits : {a b c : ℕ} → a ≡ 24 * nodesBound → b ≡ 4 * listWordsBound → c ≡ 4 * parametersBound → Fits a b c
+  pub fits : {a b c : ℕ} → a ≡ wordBytes * nodeWidth * nodesBound → b ≡ wordBytes * listWidth * listWordsBound → c ≡ wordBytes * nameWidth * parametersBound → Fits a b c
   fits p q r =
       let t = text-bounds s h e in
       record { nodes-fit = omega (arith, t .0); list-fits = omega (arith, t .1); names-fit = omega (arith, t .2) }
 
-  room : (n most : ℕ) → n ≤ most → n ≤ length (words (replicate (4 * most) 0))
-  room n most l = rw (length-zeros most) l
+  -- n records of w words have place in a buffer of zeros for as many as there may be
+  room : (w n most : ℕ) → n ≤ most → w * n ≤ length (words (zeros (w * most)))
+  room w n most l = rw (length-zeros (w * most)) (mul-le-mul-left w l)
 
   pub good-listing : {nodes list names : List ℕ}
-      → nodes ≡ filled readNodes (readHeader s) s (replicate (4 * (nodeWidth * nodesBound)) 0)
-      → list ≡ filled readList (readHeader s) s (replicate (4 * (listWidth * listWordsBound)) 0)
-      → names ≡ filled readNames (readHeader s) s (replicate (4 * (nameWidth * parametersBound)) 0)
-      → treeListing (take (24 * h .nodes) nodes) (h .root) (h .mode) (take (4 * h .list) list) (take (4 * h .names) names) ≡ lowerlist s
+      → nodes ≡ filled readNodes (readHeader s) s (zeros (nodeWidth * nodesBound))
+      → list ≡ filled readList (readHeader s) s (zeros (listWidth * listWordsBound))
+      → names ≡ filled readNames (readHeader s) s (zeros (nameWidth * parametersBound))
+      → treeListing (take (nodesBytes h) nodes) (h .root) (h .mode) (take (listBytes h) list) (take (namesBytes h) names) ≡ lowerlist s
   unfolding treeListing
   good-listing a b c =
       let t = text-bounds s h e in
-      let first = nodes-bytes s h e _ a (room (nodeWidth * h .nodes) (nodeWidth * nodesBound) (omega (arith, t .0))) in
-      let second = list-bytes s h e _ b (room (listWidth * h .list) (listWidth * listWordsBound) (omega (arith, t .1))) in
-      let third = names-bytes s h e _ c (room (nameWidth * h .names) (nameWidth * parametersBound) (omega (arith, t .2))) in
+      let first = nodes-bytes s h e _ a (room nodeWidth (h .nodes) nodesBound (t .0)) in
+      let second = list-bytes s h e _ b (room listWidth (h .list) listWordsBound (t .1)) in
+      let third = names-bytes s h e _ c (room nameWidth (h .names) parametersBound (t .2)) in
       lowered-prints s h e first second third refl refl refl refl
 
 pub bad-listing : (s : List ℕ) → readText s ≡ Head.Bad → printTree none ≡ lowerlist s
@@ -105,20 +108,17 @@ bad-listing s e = sym (bad-prints s [] [] e)
 -- ---- the output
 
 module _ (nodes : List ℕ) (root mode : ℕ) (list names code constants marks : List ℕ) where
-  length-listing : length (listing (lower nodes root mode list names code constants marks)) ≤ 89 + 45 * capacity 4 code + 34 * capacity 3 constants
+  length-listing : length (listing (lower nodes root mode list names code constants marks)) ≤ lineBytes resultWidth + lineBytes instructionWidth * capacity instructionWidth code + lineBytes constantWidth * capacity constantWidth constants
   unfolding listing
   length-listing =
       let l = lower nodes root mode list names code constants marks in
       let w = nothing-beyond nodes root mode list names code constants marks in
       omega (arith, w .code-fits, w .constants-fit, printed-length (numbersOf (l .result)) (l .code) (l .constants))
 
-code-capacity : (n : ℕ) → capacity instructionWidth (replicate (instructionWidth * n) 0) ≡ n
+-- a buffer of zeros holds the records that it is for
+zeros-capacity : (w : ℕ) → 0 < w → (n : ℕ) → capacity w (replicate (w * n) 0) ≡ n
 unfolding capacity
-code-capacity n = rw (length-replicate {A = ℕ} (instructionWidth * n) 0) (omega arith)
-
-constants-capacity : (n : ℕ) → capacity constantWidth (replicate (constantWidth * n) 0) ≡ n
-unfolding capacity
-constants-capacity n = rw (length-replicate {A = ℕ} (constantWidth * n) 0) (omega arith)
+zeros-capacity w h n = rw (length-replicate {A = ℕ} (w * n) 0) (mul-div-right n h)
 
 pub length-lowerlist : (s : List ℕ) → length (lowerlist s) ≤ longestListing
 length-lowerlist s = go (readText s) refl
@@ -131,8 +131,8 @@ length-lowerlist s = go (readText s) refl
           arith,
           length-listing (bytesOf (readNodes h s .words)) (h .root) (h .mode) (bytesOf (readList h s .words)) (bytesOf (readNames h s .words))
               (replicate (instructionWidth * instructionsBound) 0) (replicate (constantWidth * constantsBound) 0) (replicate marksBound 0),
-          code-capacity instructionsBound,
-          constants-capacity constantsBound,
+          zeros-capacity instructionWidth (omega arith) instructionsBound,
+          zeros-capacity constantWidth (omega arith) constantsBound,
         ))
 
 -- a count of bytes that were printed, and a buffer of so many bytes

@@ -3,10 +3,27 @@ use Prim.Native.Nat.{ℕ, _*_, _≤_}
 use mathlib.Core.Path.{_≡_}
 use mathlib.Core.List.{List}
 use lib.ListN.{length, take, drop, replicate}
+use Rattle.syntax.specs.Ast.{nodeWidth}
 use Rattle.runtime.specs.Instruction.{instructionWidth}
 use Rattle.runtime.specs.Value.{constantWidth}
 use Rattle.lowering.specs.Result.{lower}
+use Rattle.listing.specs.declared.text.Header.{Header}
+use Rattle.listing.specs.Text.{listWidth, nameWidth}
 use Rattle.listing.specs.Output.{instructionsBound, constantsBound, marksBound, longestListing, listing}
+
+-- the bytes of a word
+abbrev pub wordBytes : ℕ
+wordBytes = 4
+
+-- the bytes of the tree that a header tells of: its nodes, its list and its parameters' names
+abbrev pub nodesBytes : Header → ℕ
+nodesBytes h = wordBytes * nodeWidth * h .nodes
+
+abbrev pub listBytes : Header → ℕ
+listBytes h = wordBytes * listWidth * h .list
+
+abbrev pub namesBytes : Header → ℕ
+namesBytes h = wordBytes * nameWidth * h .names
 
 -- "2,048 instructions, 512 constants, 512 marks", all zeros at first
 unfoldable pub treeListing : List ℕ → ℕ → ℕ → List ℕ → List ℕ → List ℕ

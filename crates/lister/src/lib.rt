@@ -1,18 +1,26 @@
 // From a text to its listing: the text is read into buffers, its tree is lowered, and what lowering leaves is printed.
 ghost use mathlib.Core.Path.{_≡_};
 ghost use mathlib.Core.Option.{none};
-ghost use Prim.Native.Nat.{_+_, _*_, _≤_};
+ghost use Prim.Native.Nat.{_+_, _≤_};
 ghost use lib.ListN.{length, take, replicate};
 ghost use lib.Seq.{sets};
 ghost use Rattle.listing.specs.Text.{longestText};
 ghost use Rattle.listing.specs.Output.{longestListing, printTree, lowerlist};
-ghost use Rattle.lister.specs.Lister.{treeListing};
+ghost use Rattle.lister.specs.Lister.{nodesBytes, listBytes, namesBytes, treeListing};
 use codegen::lower;
 use diagnostics::Refusal;
-use listing::column::COLUMN_BYTES;
+use listing::output::CONSTANT_LINE;
+use listing::output::INSTRUCTION_LINE;
+use listing::output::RESULT_LINE;
 use listing::output::write_listing;
+use listing::text::HEADER_LINE;
 use listing::text::Head;
 use listing::text::Header;
+use listing::text::MAX_LIST_WORDS;
+use listing::text::MAX_NODES;
+use listing::text::MAX_PARAMETERS;
+use listing::text::NODE_LINE;
+use listing::text::WORD_LINE;
 use listing::text::read_text;
 use lowering::RESULT_WORDS;
 use result::numbers_of;
@@ -20,13 +28,7 @@ use runtime::instruction::INSTRUCTION_WORDS;
 use runtime::value::CONSTANT_WORDS;
 use syntax::ast::NODE_WORDS;
 
-// The bounds of a text, and of what its lowering may make.
-const MAX_NODES: usize = 512;
-
-const MAX_LIST_WORDS: usize = 512;
-
-const MAX_PARAMETERS: usize = 256;
-
+// The bounds of what the lowering of a text may make.
 const MAX_INSTRUCTIONS: usize = 2048;
 
 const MAX_CONSTANTS: usize = 512;
@@ -38,11 +40,11 @@ const WORD_BYTES: usize = 4;
 
 const NODE_BYTES: usize = WORD_BYTES * NODE_WORDS;
 
-const NODES_BYTES: usize = NODE_BYTES * MAX_NODES;
+const NODES_BYTES: usize = NODE_BYTES * (MAX_NODES as usize);
 
-const LIST_BYTES: usize = WORD_BYTES * MAX_LIST_WORDS;
+const LIST_BYTES: usize = WORD_BYTES * (MAX_LIST_WORDS as usize);
 
-const NAMES_BYTES: usize = WORD_BYTES * MAX_PARAMETERS;
+const NAMES_BYTES: usize = WORD_BYTES * (MAX_PARAMETERS as usize);
 
 const CODE_BYTES: usize = WORD_BYTES * INSTRUCTION_WORDS * MAX_INSTRUCTIONS;
 
@@ -50,27 +52,12 @@ const CONSTANTS_BYTES: usize = WORD_BYTES * CONSTANT_WORDS * MAX_CONSTANTS;
 
 const MARKS_BYTES: usize = WORD_BYTES * MAX_MARKS;
 
-// The lines of a text and of a listing: a column for each word, and a line feed.
-const HEADER_WORDS: usize = 5;
-
-const WORD_LINE: usize = COLUMN_BYTES + 1;
-
-const HEADER_LINE: usize = COLUMN_BYTES * HEADER_WORDS + 1;
-
-const NODE_LINE: usize = COLUMN_BYTES * NODE_WORDS + 1;
-
-const RESULT_LINE: usize = COLUMN_BYTES * RESULT_WORDS + 1;
-
-const INSTRUCTION_LINE: usize = COLUMN_BYTES * INSTRUCTION_WORDS + 1;
-
-const CONSTANT_LINE: usize = COLUMN_BYTES * CONSTANT_WORDS + 1;
-
 // The bytes of the longest text within the bounds; of a buffer for a text, one more, so that a text that is too long is not taken for a good one; and of the longest
 // listing.
 const TEXT_BYTES: usize = HEADER_LINE
-    + NODE_LINE * MAX_NODES
-    + WORD_LINE * MAX_LIST_WORDS
-    + WORD_LINE * MAX_PARAMETERS;
+    + NODE_LINE * (MAX_NODES as usize)
+    + WORD_LINE * (MAX_LIST_WORDS as usize)
+    + WORD_LINE * (MAX_PARAMETERS as usize);
 
 const TEXT_BUFFER: usize = TEXT_BYTES + 1;
 
@@ -118,11 +105,11 @@ fn list_tree(nodes: &[u8], root: u32, mode: u32, list: &[u8], names: &[u8], out:
 
 // The same for the tree that a header describes, at the start of each buffer.
 fn list_good(h: Header, nodes: &[u8], list: &[u8], names: &[u8], out: &mut [u8]) -> usize
-    requires { ⌜ 24 * h .nodes ≤ length (now nodes) ⌝ }
-    requires { ⌜ 4 * h .list ≤ length (now list) ⌝ }
-    requires { ⌜ 4 * h .names ≤ length (now names) ⌝ }
-    ensures bytes { λ _. ⌜ now (out .exit) ≡ sets (now (out .entry)) 0 (treeListing (take (24 * h .nodes) (now (nodes .entry))) (h .root) (h .mode) (take (4 * h .list) (now (list .entry))) (take (4 * h .names) (now (names .entry)))) ⌝ }
-    ensures length { λ r. ⌜ r ≡ length (treeListing (take (24 * h .nodes) (now (nodes .entry))) (h .root) (h .mode) (take (4 * h .list) (now (list .entry))) (take (4 * h .names) (now (names .entry)))) ⌝ }
+    requires { ⌜ nodesBytes h ≤ length (now nodes) ⌝ }
+    requires { ⌜ listBytes h ≤ length (now list) ⌝ }
+    requires { ⌜ namesBytes h ≤ length (now names) ⌝ }
+    ensures bytes { λ _. ⌜ now (out .exit) ≡ sets (now (out .entry)) 0 (treeListing (take (nodesBytes h) (now (nodes .entry))) (h .root) (h .mode) (take (listBytes h) (now (list .entry))) (take (namesBytes h) (now (names .entry)))) ⌝ }
+    ensures length { λ r. ⌜ r ≡ length (treeListing (take (nodesBytes h) (now (nodes .entry))) (h .root) (h .mode) (take (listBytes h) (now (list .entry))) (take (namesBytes h) (now (names .entry)))) ⌝ }
 {
     let nodes_end = NODE_BYTES * (h.nodes as usize);
     let list_end = WORD_BYTES * (h.list as usize);

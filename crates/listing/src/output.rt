@@ -16,11 +16,11 @@ use words::put_words;
 use words::word;
 
 // The bytes of the lines of a result, of an instruction and of a constant.
-const RESULT_LINE: usize = COLUMN_BYTES * RESULT_WORDS + 1;
+pub const RESULT_LINE: usize = COLUMN_BYTES * RESULT_WORDS + 1;
 
-const INSTRUCTION_LINE: usize = COLUMN_BYTES * INSTRUCTION_WORDS + 1;
+pub const INSTRUCTION_LINE: usize = COLUMN_BYTES * INSTRUCTION_WORDS + 1;
 
-const CONSTANT_LINE: usize = COLUMN_BYTES * CONSTANT_WORDS + 1;
+pub const CONSTANT_LINE: usize = COLUMN_BYTES * CONSTANT_WORDS + 1;
 
 // Writes record `place` of `width` words as a line that begins at `at`; bytes past the end are left out.
 fn write_line(out: &mut [u8], at: usize, width: u8, s: &[u8], place: u32)

@@ -33,18 +33,19 @@ pub const LINE_FEED: u8 = 10;
 
 const HEADER_WORDS: usize = 5;
 
-const MAX_NODES: u32 = 512;
+// The bounds of a text.
+pub const MAX_NODES: u32 = 512;
 
-const MAX_LIST_WORDS: u32 = 512;
+pub const MAX_LIST_WORDS: u32 = 512;
 
-const MAX_PARAMETERS: u32 = 256;
+pub const MAX_PARAMETERS: u32 = 256;
 
 // The bytes of a line of one column, and of the lines of a header and of a node.
-const WORD_LINE: usize = COLUMN_BYTES + 1;
+pub const WORD_LINE: usize = COLUMN_BYTES + 1;
 
-const HEADER_LINE: usize = COLUMN_BYTES * HEADER_WORDS + 1;
+pub const HEADER_LINE: usize = COLUMN_BYTES * HEADER_WORDS + 1;
 
-const NODE_LINE: usize = COLUMN_BYTES * NODE_WORDS + 1;
+pub const NODE_LINE: usize = COLUMN_BYTES * NODE_WORDS + 1;
 
 // The byte at i; 0 past the end.
 fn byte(s: &[u8], i: usize) -> u8

@@ -2,7 +2,9 @@
 use mathlib.Core.Path.{sym, _∙_}
 use Prim.Native.Nat.{ℕ, _*_}
 use lib.ListN.{length-replicate}
-use Rattle.listing.specs.Text.{nodesBound, listWordsBound, parametersBound}
+use Rattle.syntax.specs.Ast.{nodeWidth}
+use Rattle.listing.specs.Text.{listWidth, nameWidth, nodesBound, listWordsBound, parametersBound}
+use Rattle.lister.specs.Lister.{wordBytes}
 use Rattle.lister.proofs.Laws.{fits, good-listing, bad-listing}
 use borrow.Author.Needs.{needs}
 use Rattle.lister.proofs.list.Statement.{statement}
@@ -36,9 +38,9 @@ list-good-requires : tie.Need-list-good-requires
 list-good-requires c κs =
     let read = c .before .before .before .before .before .before .before .before .before .before .read-text in
     let place = fits (c .before .before .before .before .before .before .before .before .before .before .before .before .before .before .before .before .args .text .now) _ (sym (read .ensures .0) ∙ c .before .before .before .before .before .head .given .1)
-    (read .kept .1 .0 ∙ length-replicate {A = ℕ} (24 * nodesBound) 0)
-    (read .kept .1 .1 .0 ∙ length-replicate {A = ℕ} (4 * listWordsBound) 0)
-    (read .kept .1 .1 .1 .0 ∙ length-replicate {A = ℕ} (4 * parametersBound) 0) in
+    (read .kept .1 .0 ∙ length-replicate {A = ℕ} (wordBytes * nodeWidth * nodesBound) 0)
+    (read .kept .1 .1 .0 ∙ length-replicate {A = ℕ} (wordBytes * listWidth * listWordsBound) 0)
+    (read .kept .1 .1 .1 .0 ∙ length-replicate {A = ℕ} (wordBytes * nameWidth * parametersBound) 0) in
     (place .nodes-fit, (place .list-fits, place .names-fit))
 
 enum-told : tie.Need-enum-told
