@@ -8,7 +8,7 @@ use lib.ListN.{length, getD}
 use Rattle.diagnostics.specs.declared.Refusal.{Refusal}
 use Rattle.environment.specs.declared.Register.{Register}
 use Rattle.environment.specs.declared.RegisterSet.{RegisterSet}
-use Rattle.environment.specs.Registers.{held}
+use Rattle.environment.specs.Registers.{registerCount, held}
 
 -- "Every held register is below the frame size", of a set as the code makes it
 pub record Sound (s : RegisterSet) : Type 0 where
@@ -20,7 +20,7 @@ pub record Sound (s : RegisterSet) : Type 0 where
 -- "a taken register is free and every smaller one is held": register r is taken from s, which leaves t
 pub record Takes (s : RegisterSet) (r : ℕ) (t : RegisterSet) : Type 0 where
   -- it is one of the 256
-  pub in-range : r < 256
+  pub in-range : r < registerCount
   -- it was not held
   pub was-free : held s r ≡ false
   -- every smaller one was
@@ -41,7 +41,7 @@ pub record Refuses (s : RegisterSet) (refusal : Refusal) (t : RegisterSet) : Typ
   -- the set is as it was
   pub unchanged : t ≡ s
   -- all 256 are held
-  pub all-held : (j : ℕ) → j < 256 → held s j ≡ true
+  pub all-held : (j : ℕ) → j < registerCount → held s j ≡ true
 
 -- "Taking or giving back a register hands the set back changed": register r, which is held, is given back to s, which leaves t
 pub record Gives (s : RegisterSet) (r : ℕ) (t : RegisterSet) : Type 0 where

@@ -4,7 +4,7 @@ ghost use mathlib.Core.Bool.{cond};
 ghost use Prim.Native.Nat.{_-_, _/_, _%_, _^_, min};
 ghost use lib.Dec.{eqb};
 ghost use Rattle.words.specs.Words.{words};
-ghost use Rattle.environment.specs.Registers.{allFree, smallestFree, taken, givenBack, held};
+ghost use Rattle.environment.specs.Registers.{wordBits, allFree, smallestFree, taken, givenBack, held};
 ghost use Rattle.environment.specs.Environment.{allocated, freed, parameters, lookup};
 use diagnostics::Place;
 use diagnostics::Refusal;
@@ -12,7 +12,7 @@ use words::FULL;
 use words::last_position;
 
 // How many registers there are.
-const REGISTERS: u32 = 256;
+pub const REGISTERS: u32 = 256;
 
 // How many of them are in one word of a set.
 const BITS: u32 = 64;
@@ -51,14 +51,14 @@ pub struct Allocated {
 
 // The bit of register r in word i of a set, or 0 where the register is in another word.
 fn bit_in(i: u32, r: u32) -> u64
-    ensures { λ b. ⌜ b ≡ cond (eqb (r / 64) i) (2 ^ (r % 64)) 0 ⌝ }
+    ensures { λ b. ⌜ b ≡ cond (eqb (r / wordBits) i) (2 ^ (r % wordBits)) 0 ⌝ }
 {
     if r / BITS == i { 1u64 << (r % BITS) } else { 0 }
 }
 
 // The word of the 64 registers from `first` on: those below `arity` are held, the others free.
 fn held_below(arity: u32, first: u32) -> u64
-    ensures { λ w. ⌜ w ≡ 2 ^ 64 - 2 ^ min 64 (arity - first) ⌝ }
+    ensures { λ w. ⌜ w ≡ 2 ^ wordBits - 2 ^ min wordBits (arity - first) ⌝ }
 {
     if arity <= first {
         ALL_FREE

@@ -9,7 +9,7 @@ use native.Mathlib.Nat.{mul-le-mul-left, mul-div-right}
 use native.Mathlib.Decide.{decLt}
 use lib.ListN.{length, take, drop, replicate, length-replicate}
 use lib.Seq.{sets, sets-eq, take-at, take-all, length-take-le}
-use Rattle.words.specs.Words.{words, tail, bytesOf}
+use Rattle.words.specs.Words.{wordBytes, words, tail, bytesOf}
 use Rattle.words.specs.Records.{capacity}
 use Rattle.syntax.specs.Ast.{nodeWidth}
 use Rattle.runtime.specs.Instruction.{instructionWidth}
@@ -27,7 +27,7 @@ use Rattle.listing.specs.Output.{resultWidth, instructionsBound, constantsBound
 use Rattle.listing.proofs.Written.{printed-length}
 use Rattle.listing.proofs.Only.{text-only}
 use Rattle.listing.proofs.Program.{zero-words, length-zeros, text-bounds, nodes-bytes, list-bytes, names-bytes, lowered-prints, good-prints, bad-prints}
-use Rattle.lister.specs.Lister.{wordBytes, nodesBytes, listBytes, namesBytes, treeListing}
+use Rattle.lister.specs.Lister.{nodesBytes, listBytes, namesBytes, treeListing}
 
 zero-bytes : (n : ℕ) → Bytes (replicate n 0)
 zero-bytes zero zero = omega arith

@@ -3,6 +3,7 @@ use Prim.Native.Nat.{ℕ, _*_, _≤_}
 use mathlib.Core.Path.{_≡_}
 use mathlib.Core.List.{List}
 use lib.ListN.{length, take, drop, replicate}
+use Rattle.words.specs.Words.{wordBytes}
 use Rattle.syntax.specs.Ast.{nodeWidth}
 use Rattle.runtime.specs.Instruction.{instructionWidth}
 use Rattle.runtime.specs.Value.{constantWidth}
@@ -10,10 +11,6 @@ use Rattle.lowering.specs.Result.{lower}
 use Rattle.listing.specs.declared.text.Header.{Header}
 use Rattle.listing.specs.Text.{listWidth, nameWidth}
 use Rattle.listing.specs.Output.{instructionsBound, constantsBound, marksBound, longestListing, listing}
-
--- the bytes of a word
-abbrev pub wordBytes : ℕ
-wordBytes = 4
 
 -- the bytes of the tree that a header tells of: its nodes, its list and its parameters' names
 abbrev pub nodesBytes : Header → ℕ

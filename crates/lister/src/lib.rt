@@ -27,6 +27,7 @@ use result::numbers_of;
 use runtime::instruction::INSTRUCTION_WORDS;
 use runtime::value::CONSTANT_WORDS;
 use syntax::ast::NODE_WORDS;
+use words::WORD_BYTES;
 
 // The bounds of what the lowering of a text may make.
 const MAX_INSTRUCTIONS: usize = 2048;
@@ -36,8 +37,6 @@ const MAX_CONSTANTS: usize = 512;
 const MAX_MARKS: usize = 512;
 
 // The buffers.
-const WORD_BYTES: usize = 4;
-
 const NODE_BYTES: usize = WORD_BYTES * NODE_WORDS;
 
 const NODES_BYTES: usize = NODE_BYTES * (MAX_NODES as usize);

@@ -23,6 +23,9 @@ use words::capacity;
 use words::put_word;
 use words::word;
 
+// The highest register.
+const MAX_REGISTER: u64 = 255;
+
 // Every argument is patched; or one is refused, the first, with the place of its instruction.
 pub enum Patched {
     Done,
@@ -99,7 +102,7 @@ pub fn patch_argument(code: &mut [u8], place: u32, frame_size: u32) -> Patched
     if has_destination(kind) {
         let dest = word(code, at + 1);
         let sum = (dest as u64) + (frame_size as u64);
-        if sum <= 255 {
+        if sum <= MAX_REGISTER {
             put_word(code, at + 1, sum as u32);
             Patched::Done
         } else {

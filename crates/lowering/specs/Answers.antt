@@ -11,7 +11,8 @@ use Rattle.words.specs.Words.{words}
 use Rattle.words.specs.Records.{capacity}
 use Rattle.syntax.specs.declared.ast.Node.{Node}
 use Rattle.syntax.specs.Ast.{absent}
-use Rattle.runtime.specs.Instruction.{offsetWord}
+use Rattle.runtime.specs.Instruction.{instructionWidth, firstJump, lastJump, offsetWord}
+use Rattle.runtime.specs.Value.{constantWidth}
 use Rattle.runtime.specs.Function.{maxInstructions}
 use Rattle.lowering.specs.Tree.{treeOf, node}
 use Rattle.lowering.specs.Questions.{Verdict, passed, refused, questions}
@@ -90,11 +91,11 @@ module _ (nodes : List ℕ) (root mode : ℕ) (list names code constants marks :
     pub code-length : length (l .code) ≡ length code
     pub constants-length : length (l .constants) ≡ length constants
     pub marks-length : length (l .marks) ≡ length marks
-    pub code-past : (i : ℕ) → 4 * l .result .instructions ≤ i → getD (l .code) i 0 ≡ getD code i 0
-    pub constants-past : (i : ℕ) → 3 * l .result .constants ≤ i → getD (l .constants) i 0 ≡ getD constants i 0
-    pub code-fits : l .result .instructions ≤ capacity 4 code
+    pub code-past : (i : ℕ) → instructionWidth * l .result .instructions ≤ i → getD (l .code) i 0 ≡ getD code i 0
+    pub constants-past : (i : ℕ) → constantWidth * l .result .constants ≤ i → getD (l .constants) i 0 ≡ getD constants i 0
+    pub code-fits : l .result .instructions ≤ capacity instructionWidth code
     pub code-few : l .result .instructions ≤ maxInstructions
-    pub constants-fit : l .result .constants ≤ capacity 3 constants
+    pub constants-fit : l .result .constants ≤ capacity constantWidth constants
     pub marks-past : (i : ℕ) → markCount ≤ i → getD (l .marks) i 0 ≡ getD marks i 0
     pub marks-fit : markCount ≤ capacity 1 marks
 
@@ -102,25 +103,25 @@ module _ (nodes : List ℕ) (root mode : ℕ) (list names code constants marks :
 
 module _ (words : List ℕ) (count index offset : ℕ) where
   abbrev pub kind : ℕ
-  kind = getD words (4 * index) 0
+  kind = getD words (instructionWidth * index) 0
 
   -- what is asked: an index below the count, a count within the buffer, a jump
   pub record MayPatch : Type 0 where
     pub below : index < count
-    pub within-buffer : count ≤ capacity 4 words
+    pub within-buffer : count ≤ capacity instructionWidth words
     pub jump : JumpKind kind
 
   -- 19 exactly where the index is not below the count, the count is not within the buffer, or the kind is not 41 to 53
   pub data MayNot : Type 0 where
     index-past : count ≤ index → MayNot
-    count-past : capacity 4 words < count → MayNot
-    kind-below : kind < 41 → MayNot
-    kind-past : 53 < kind → MayNot
+    count-past : capacity instructionWidth words < count → MayNot
+    kind-below : kind < firstJump → MayNot
+    kind-past : lastJump < kind → MayNot
 
   -- with 0 exactly one word changes, the offset of a jump
   pub record OneWord (after : List ℕ) : Type 0 where
     pub same-length : length after ≡ length words
     pub jump : JumpKind kind
-    pub inside : 4 * index + offsetWord kind < length words
-    pub set-there : getD after (4 * index + offsetWord kind) 0 ≡ offset
-    pub others : (i : ℕ) → i ≢ 4 * index + offsetWord kind → getD after i 0 ≡ getD words i 0
+    pub inside : instructionWidth * index + offsetWord kind < length words
+    pub set-there : getD after (instructionWidth * index + offsetWord kind) 0 ≡ offset
+    pub others : (i : ℕ) → i ≢ instructionWidth * index + offsetWord kind → getD after i 0 ≡ getD words i 0

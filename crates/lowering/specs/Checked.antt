@@ -12,7 +12,7 @@ use Rattle.words.specs.Records.{capacity}
 use Rattle.syntax.specs.declared.ast.Node.{Node}
 use Rattle.syntax.specs.Ast.{nodeWidth, nodeWord, absent}
 use Rattle.lowering.specs.Tree.{treeOf, Tree, node, children}
-use Rattle.lowering.specs.Questions.{question1, question2, question3, question4, question5, question6, question7, question8}
+use Rattle.lowering.specs.Questions.{maxArguments, question1, question2, question3, question4, question5, question6, question7, question8}
 use Rattle.lowering.specs.Meaning.{Named}
 
 -- questions 3 to 6, asked of node i
@@ -86,7 +86,7 @@ pub record IfBelow (i c a b : ℕ) : Type 0 where
 
 pub record CallBelow (t : Tree) (i c first count : ℕ) : Type 0 where
   pub callee : c < i
-  pub few : count ≤ 255
+  pub few : count ≤ maxArguments
   pub inside : first + count ≤ length (t .list)
   pub argument : (k : ℕ) → k < count → getD (t .list) (first + k) 0 < i
 

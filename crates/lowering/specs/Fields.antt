@@ -2,6 +2,8 @@
 use Prim.Native.Nat.{ℕ, _+_, _*_, _<_}
 use mathlib.Core.List.{List, [], _∷_}
 use lib.ListN.{getD}
+use Rattle.words.specs.Words.{byteEnd}
+use Rattle.runtime.specs.Instruction.{instructionWidth, offsetEnd}
 
 -- the fields of the Rust's instructions: a register and a call's argument count have 8 bits, an offset has 31 and its sign, and a constant's index
 -- is one of those pooled (`top` of them); a word that is no field is 0
@@ -12,12 +14,16 @@ pub data Field : Type 0 where
   offset : Field
   unused : Field
 
+-- an index of the Rust's has 16 bits: it is below this
+abbrev pub indexEnd : ℕ
+indexEnd = 65536
+
 -- the limit that a field is below
 abbrev pub limit : ℕ → Field → ℕ
-limit top reg = 256
+limit top reg = byteEnd
 limit top index = top
-limit top arguments = 256
-limit top offset = 2147483648
+limit top arguments = byteEnd
+limit top offset = offsetEnd
 limit top unused = 1
 
 -- the three words after the kind, by kind from 0 (Add) to 54 (CaptureValue). Lowering never makes 32, 34 to 37 and
@@ -94,4 +100,4 @@ Narrow top ws =
 
 -- the four words of instruction p
 abbrev pub wordsAt : List ℕ → ℕ → List ℕ
-wordsAt ws p = getD ws (4 * p) 0 ∷ getD ws (4 * p + 1) 0 ∷ getD ws (4 * p + 2) 0 ∷ getD ws (4 * p + 3) 0 ∷ []
+wordsAt ws p = getD ws (instructionWidth * p) 0 ∷ getD ws (instructionWidth * p + 1) 0 ∷ getD ws (instructionWidth * p + 2) 0 ∷ getD ws (instructionWidth * p + 3) 0 ∷ []

@@ -7,7 +7,7 @@ use mathlib.Core.List.{List}
 use lib.ListN.{length}
 use Rattle.words.specs.Words.{words}
 use Rattle.environment.specs.declared.RegisterSet.{RegisterSet}
-use Rattle.environment.specs.Registers.{held}
+use Rattle.environment.specs.Registers.{registerCount, held}
 use Rattle.lowering.specs.Tree.{Tree, treeOf}
 use Rattle.lowering.specs.Walk.{Made, Outcome, ends, Walk, left}
 use Rattle.lowering.specs.Steps.{freeTemp}
@@ -23,7 +23,7 @@ heldBelow s zero = 0
 heldBelow s (suc n) = cond (held s n) 1 0 + heldBelow s n
 
 abbrev pub heldCount : Made → ℕ
-heldCount m = heldBelow (registersOf m) 256
+heldCount m = heldBelow (registersOf m) registerCount
 
 abbrev pub frameOf : Made → ℕ
 frameOf m = registersOf m .«frame_size»

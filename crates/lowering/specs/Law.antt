@@ -10,6 +10,7 @@ use Rattle.words.specs.Words.{words}
 use Rattle.runtime.specs.Instruction.{instructionWidth}
 use Rattle.runtime.specs.Value.{constantWidth}
 use Rattle.lowering.specs.Tree.{Tree, treeOf, node}
+use Rattle.lowering.specs.Questions.{maxParameters}
 use Rattle.lowering.specs.Walk.{Made, ends}
 use Rattle.lowering.specs.Steps.{freeTemp}
 use Rattle.lowering.specs.Result.{Lowered, begin, lowerRoot, lower, result, leaves}
@@ -22,7 +23,7 @@ pub record Accepted : Type 0 where
   pub tree : Tree
   pub root : ℕ
   pub plain : (i : ℕ) → Reaches tree root i → Plain (node tree i)
-  pub few : length (tree .names) ≤ 256
+  pub few : length (tree .names) ≤ maxParameters
   pub code : List ℕ
   pub constants : List ℕ
   pub marks : List ℕ

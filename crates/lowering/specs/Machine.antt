@@ -6,9 +6,10 @@ use mathlib.Core.Bool.{Bool, true, false, cond, not, _&&_, Bool·beq}
 use mathlib.Core.Option.{Option, none, some}
 use lib.Dec.{leb, ltb, eqb}
 use lib.ListN.{getD}
+use Rattle.words.specs.Words.{wordEnd}
 use Rattle.words.specs.Records.{capacity, recordAt}
 use Rattle.runtime.specs.declared.instruction.Instruction.{Instruction}
-use Rattle.runtime.specs.Instruction.{instructionWidth, decode}
+use Rattle.runtime.specs.Instruction.{instructionWidth, offsetEnd, decode}
 use Rattle.runtime.specs.Value.{constantWidth, numberOf}
 use Rattle.lowering.specs.Meaning.{Answer, val, fail, Unary, negate, deref, invert, Binary, add, subtract, multiply, divide, modulo, property, Compare, equal, unequal, less, lessEqual, Operators, truth}
 
@@ -96,8 +97,8 @@ action (Instruction.CaptureValue src) = other
 -- "A jump goes to its own place plus its offset." "An offset is a two's-complement word": from 2^31 on it is negative, and a place below 0 is none.
 unfoldable pub target : ℕ → ℕ → Option ℕ
 target place offset =
-    cond (ltb offset 2147483648) (some (place + offset))
-    (cond (leb 4294967296 (place + offset)) (some (place + offset - 4294967296))
+    cond (ltb offset offsetEnd) (some (place + offset))
+    (cond (leb wordEnd (place + offset)) (some (place + offset - wordEnd))
     none)
 
 -- record `place` of w words in a buffer that has `count` of them; none outside

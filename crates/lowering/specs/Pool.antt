@@ -7,18 +7,19 @@ use mathlib.Core.List.{List}
 use lib.ListN.{length}
 use Rattle.words.specs.Records.{recordAt}
 use Rattle.runtime.specs.declared.operand.Operand.{Operand}
-use Rattle.runtime.specs.Value.{constantWords}
+use Rattle.runtime.specs.Value.{constantWidth, constantWords}
 use Rattle.lowering.specs.Tree.{Tree, treeOf}
+use Rattle.lowering.specs.Questions.{maxNodes}
 use Rattle.lowering.specs.Walk.{Made, Outcome, Walk, left}
 use Rattle.lowering.specs.Steps.{freeTemp}
 use Rattle.lowering.specs.Result.{Lowered, begin, lowerRoot}
-use Rattle.lowering.specs.Fields.{Narrow, wordsAt}
+use Rattle.lowering.specs.Fields.{indexEnd, Narrow, wordsAt}
 use Rattle.lowering.specs.Trace.{Runs, takes, gives, leaves, emits, finds, pools, patches, marks, moves, refuses, constantsOf, instructionsOf, step, returns, follows, halts, reads, counts}
 use Rattle.lowering.specs.Answers.{start}
 
 -- the words of constant p
 abbrev pub constantAt : Made → ℕ → List ℕ
-constantAt m p = recordAt 3 (m .constants) p
+constantAt m p = recordAt constantWidth (m .constants) p
 
 -- every instruction made fits its fields
 abbrev pub AllNarrow : Made → Type 0
@@ -50,7 +51,7 @@ module _ {t : Tree} {root : ℕ} where
 
 -- a constant stands at an index of what is left, and at no earlier one
 abbrev pub First : Lowered → Operand → ℕ → Type 0
-First l c p = (p < l .result .constants) × (recordAt 3 (l .constants) p ≡ constantWords c) × ((q : ℕ) → q < p → recordAt 3 (l .constants) q ≢ constantWords c)
+First l c p = (p < l .result .constants) × (recordAt constantWidth (l .constants) p ≡ constantWords c) × ((q : ℕ) → q < p → recordAt constantWidth (l .constants) q ≢ constantWords c)
 
 module _ (nodes : List ℕ) (root mode : ℕ) (list names code constants marks : List ℕ) where
   -- Every constant that the walk pools: its index is the first place with its words, and there it stays.
@@ -63,6 +64,6 @@ module _ (nodes : List ℕ) (root mode : ℕ) (list names code constants marks :
 
   -- Nothing is cut: in whatever lowering leaves, registers and argument counts are below 256, constants' indexes below 65,536, offsets below 2^31.
   pub record Fit (l : Lowered) : Type 0 where
-    pub few-constants : l .result .constants ≤ 4096
-    pub fields-fit : (p : ℕ) → p < l .result .instructions → Narrow 65536 (wordsAt (l .code) p)
-    pub distinct : (q p : ℕ) → q < p → p < l .result .constants → recordAt 3 (l .constants) q ≢ recordAt 3 (l .constants) p
+    pub few-constants : l .result .constants ≤ maxNodes
+    pub fields-fit : (p : ℕ) → p < l .result .instructions → Narrow indexEnd (wordsAt (l .code) p)
+    pub distinct : (q p : ℕ) → q < p → p < l .result .constants → recordAt constantWidth (l .constants) q ≢ recordAt constantWidth (l .constants) p

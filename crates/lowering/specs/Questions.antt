@@ -6,20 +6,38 @@ use lib.Dec.{leb, ltb, eqb}
 use lib.Ieee.{binary64, nanBits}
 use lib.ListN.{length, getD}
 use Rattle.diagnostics.specs.declared.Refusal.{Refusal}
-use Rattle.words.specs.Words.{words}
+use Rattle.words.specs.Words.{wordBytes, words}
 use Rattle.words.specs.Records.{capacity}
 use Rattle.syntax.specs.Ast.{nodeWidth, nodeWord}
+use Rattle.runtime.specs.Value.{partsBits}
 use Rattle.lowering.specs.Tree.{Tree, treeOf, node, children}
+
+-- "1 to 4,096 whole nodes, at most 8,192 list words"; "arguments at most 255"; "at most 256 parameters"
+abbrev pub maxNodes : ℕ
+maxNodes = 4096
+
+abbrev pub maxListWords : ℕ
+maxListWords = 8192
+
+abbrev pub maxArguments : ℕ
+maxArguments = 255
+
+abbrev pub maxParameters : ℕ
+maxParameters = 256
+
+-- the high word of minus zero, whose low word is 0
+abbrev pub minusZeroHigh : ℕ
+minusZeroHigh = 2147483648
 
 -- whether bytes are whole records of w words
 unfoldable pub whole : ℕ → List ℕ → Bool
-whole w bytes = eqb (length bytes % (4 * w)) 0
+whole w bytes = eqb (length bytes % (wordBytes * w)) 0
 
 -- 1: "Are there 1 to 4,096 whole nodes, at most 8,192 list words, and are list and names whole words?" (of the bytes)
 unfoldable pub question1 : List ℕ → List ℕ → List ℕ → Bool
 question1 nodes list names =
-    whole nodeWidth nodes && leb 1 (capacity nodeWidth (words nodes)) && leb (capacity nodeWidth (words nodes)) 4096
-    && whole 1 list && leb (length (words list)) 8192
+    whole nodeWidth nodes && leb 1 (capacity nodeWidth (words nodes)) && leb (capacity nodeWidth (words nodes)) maxNodes
+    && whole 1 list && leb (length (words list)) maxListWords
     && whole 1 names
 
 -- 2: "Is the mode 0 to 2, and the root one of the nodes?"
@@ -55,13 +73,13 @@ question4 kind a b c = getD usedWords kind (λ a b c. true) a b c
 
 -- 5: "Is a number neither NaN nor minus zero?"
 unfoldable pub question5 : ℕ → ℕ → ℕ → Bool
-question5 kind low high = not (eqb kind 0) || not (nanBits binary64 (4294967296 * high + low)) && not (eqb low 0 && eqb high 2147483648)
+question5 kind low high = not (eqb kind 0) || not (nanBits binary64 (partsBits low high)) && not (eqb low 0 && eqb high minusZeroHigh)
 
 -- 6: "Is its part of the list inside the list (first place plus length, two words an entry in a map, at most the list words, even for length 0),
 -- arguments at most 255?"
 unfoldable pub question6 : ℕ → ℕ → ℕ → ℕ → ℕ → Bool
 question6 size kind a b c =
-    cond (eqb kind 12) (leb (b + c) size && leb c 255)
+    cond (eqb kind 12) (leb (b + c) size && leb c maxArguments)
     (cond (eqb kind 14) (leb (a + 2 * b) size)
     true)
 
@@ -75,7 +93,7 @@ question7 t i = allBelow i (children (t .list) (node t i))
 
 -- 8: "Are there at most 256 parameters?"
 unfoldable pub question8 : ℕ → Bool
-question8 arity = leb arity 256
+question8 arity = leb arity maxParameters
 
 -- all answered yes, or the first no with its place
 pub data Verdict : Type 0 where

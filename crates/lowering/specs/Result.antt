@@ -12,7 +12,7 @@ use Rattle.environment.specs.declared.Register.{Register}
 use Rattle.environment.specs.Environment.{parameters}
 use Rattle.runtime.specs.declared.instruction.Instruction.{Instruction}
 use Rattle.runtime.specs.Operands.{regOf}
-use Rattle.runtime.specs.Instruction.{instructionWidth}
+use Rattle.runtime.specs.Instruction.{instructionWidth, firstJump, lastJump}
 use Rattle.lowering.specs.declared.Dest.{Dest}
 use Rattle.lowering.specs.Tree.{Tree, treeOf}
 use Rattle.lowering.specs.Questions.{Verdict, passed, refused, questions}
@@ -103,7 +103,7 @@ lower nodes root mode list names code constants marks = lowerBy freeTemp nodes r
 unfoldable pub canPatch : List ℕ → ℕ → ℕ → Bool
 canPatch code count index =
     ltb index count && leb count (capacity instructionWidth code)
-    && leb 41 (getD code (instructionWidth * index) 0) && leb (getD code (instructionWidth * index) 0) 53
+    && leb firstJump (getD code (instructionWidth * index) 0) && leb (getD code (instructionWidth * index) 0) lastJump
 
 pub record JumpPatched : Type 0 where
   pub number : ℕ

@@ -4,7 +4,7 @@ use mathlib.Core.Path.{_≡_}
 use mathlib.Core.Bool.{true, false}
 use Rattle.environment.specs.declared.Register.{Register}
 use Rattle.environment.specs.declared.RegisterSet.{RegisterSet}
-use Rattle.environment.specs.Registers.{held}
+use Rattle.environment.specs.Registers.{registerCount, held}
 use Rattle.syntax.specs.declared.ast.Node.{Node}
 use Rattle.runtime.specs.declared.operand.Operand.{Operand}
 use Rattle.lowering.specs.declared.Dest.{Dest}
@@ -14,7 +14,7 @@ use Rattle.lowering.specs.Lower.{lowerMaterializing, lowerArguments}
 
 -- register r of the 256 is free, and every smaller one is held
 pub record SmallestFree (s : RegisterSet) (r : ℕ) : Type 0 where
-  pub in-range : r < 256
+  pub in-range : r < registerCount
   pub is-free : held s r ≡ false
   pub smaller-held : (j : ℕ) → j < r → held s j ≡ true
 

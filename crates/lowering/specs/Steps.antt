@@ -10,7 +10,7 @@ use Rattle.words.specs.Records.{Buffer, append, maxCount}
 use Rattle.environment.specs.declared.Register.{Register}
 use Rattle.environment.specs.declared.RegisterSet.{RegisterSet}
 use Rattle.environment.specs.declared.Found.{Found}
-use Rattle.environment.specs.Registers.{held}
+use Rattle.environment.specs.Registers.{maxRegister, held}
 use Rattle.environment.specs.Environment.{allocated, freed}
 use Rattle.runtime.specs.declared.instruction.Instruction.{Instruction}
 use Rattle.runtime.specs.declared.operand.Operand.{Operand}
@@ -111,7 +111,7 @@ patchArgument place m =
     let kind : ℕ = getD (m .code) (instructionWidth * place) 0 in
     let sum : ℕ = getD (m .code) (instructionWidth * place + 1) 0 + m .state .registers .«frame_size» in
     cond (hasDestination kind)
-    (cond (leb sum 255)
+    (cond (leb sum maxRegister)
     (ends tt (withCode (set (m .code) (instructionWidth * place + 1) sum) (m .state .instructions) m))
     (stops (error Refusal.Sum place 0 0) m))
     (stops (error Refusal.Destination place 0 0) m)

@@ -13,14 +13,14 @@ use Rattle.diagnostics.specs.declared.Refusal.{Refusal}
 use Rattle.words.specs.Records.{capacity, recordAt, putRecord, maxCount}
 use Rattle.environment.specs.declared.Register.{Register}
 use Rattle.environment.specs.declared.RegisterSet.{RegisterSet}
-use Rattle.environment.specs.Registers.{held, givenBack}
+use Rattle.environment.specs.Registers.{registerCount, maxRegister, held, givenBack}
 use Rattle.environment.specs.Laws.{Takes}
 use Rattle.syntax.specs.declared.ast.Node.{Node}
 use Rattle.syntax.specs.Ast.{absent}
 use Rattle.runtime.specs.declared.instruction.Instruction.{Instruction}
 use Rattle.runtime.specs.declared.operand.Operand.{Operand}
 use Rattle.runtime.specs.Value.{constantWidth, constantWords, numberOf}
-use Rattle.runtime.specs.Instruction.{instructionWidth, wordsOf, hasDestination}
+use Rattle.runtime.specs.Instruction.{instructionWidth, firstJump, lastJump, wordsOf, hasDestination}
 use Rattle.runtime.specs.Function.{maxInstructions}
 use Rattle.runtime.specs.Pool.{Unpooled}
 use Rattle.lowering.specs.Tree.{Tree, node, spanStart, spanEnd}
@@ -58,8 +58,8 @@ firstField m p = getD (m .code) (instructionWidth * p + 1) 0
 
 -- "the kind 41 to 53": the kinds of jumps
 pub record JumpKind (kind : ℕ) : Type 0 where
-  pub low : 41 ≤ kind
-  pub high : kind ≤ 53
+  pub low : firstJump ≤ kind
+  pub high : kind ≤ lastJump
 
 -- "the mark word is its place": every mark names an instruction that is made
 abbrev pub Marked : Made → Type 0
@@ -101,7 +101,7 @@ module _ (t : Tree) (root : ℕ) where
     undeclared : {m : Made} {i symbol : ℕ} → Reaches t root i → node t i ≡ Node.Identifier symbol →
         ((j : ℕ) → j < length (t .names) → getD (t .names) j 0 ≢ symbol) → Own (atNode Refusal.Undeclared i) m
     -- 10: all 256 registers are held
-    registers : {m : Made} → ((r : ℕ) → r < 256 → Held m r) → Own (unnamed Refusal.Registers) m
+    registers : {m : Made} → ((r : ℕ) → r < registerCount → Held m r) → Own (unnamed Refusal.Registers) m
     -- 11: the if has no else
     no-else : {m : Made} {i condition thenBranch : ℕ} → Reaches t root i → node t i ≡ Node.If condition thenBranch absent → Own (atNode Refusal.Else i) m
     -- 12: the key of entry k of a map is no name, and the entry has no value
@@ -123,7 +123,7 @@ module _ (t : Tree) (root : ℕ) where
         Own (error Refusal.Destination (getD (m .marks) k 0) 0 0) m
     -- 18: it has one, and its sum with the frame size is above 255
     sum : {m : Made} (k : ℕ) → k < marksOf m → hasDestination (kindAt m (getD (m .marks) k 0)) ≡ true →
-        255 < firstField m (getD (m .marks) k 0) + registersOf m .«frame_size» → Own (error Refusal.Sum (getD (m .marks) k 0) 0 0) m
+        maxRegister < firstField m (getD (m .marks) k 0) + registersOf m .«frame_size» → Own (error Refusal.Sum (getD (m .marks) k 0) 0 0) m
 
   -- What a step of the walk does to what was made, and when.
   pub data Step : (A : Type 0) → Walk A → Made → Outcome A → Type 1 where
@@ -152,7 +152,7 @@ module _ (t : Tree) (root : ℕ) where
         Step ℕ (mark i start end) m (ends (marksOf m) (withMarks (putRecord 1 (m .marks) (marksOf m) ((instructionsOf m - 1) ∷ [])) (marksOf m + 1) m))
     -- an instruction that is made gets the frame size added to its destination, at most 255
     moves : {m : Made} (place : ℕ) → place < instructionsOf m → hasDestination (kindAt m place) ≡ true →
-        firstField m place + registersOf m .«frame_size» ≤ 255 →
+        firstField m place + registersOf m .«frame_size» ≤ maxRegister →
         Step Unit (patchArgument place) m
         (ends tt (withCode (set (m .code) (instructionWidth * place + 1) (firstField m place + registersOf m .«frame_size»)) (instructionsOf m) m))
     -- a refusal: the walk stops with it there, under its own condition, and changes nothing

@@ -18,10 +18,12 @@ use runtime::value::is_nan;
 use syntax::ast::ABSENT;
 use syntax::ast::NODE_WORDS;
 use syntax::kind;
+use words::WORD_BYTES;
+use words::WORD_END;
 use words::capacity;
 use words::word;
 
-const NODE_BYTES: usize = 4 * NODE_WORDS;
+const NODE_BYTES: usize = WORD_BYTES * NODE_WORDS;
 
 const MAX_NODES: usize = 4096;
 
@@ -55,9 +57,9 @@ fn sizes_fit(nodes: &[u8], list: &[u8], names: &[u8]) -> bool
     (nodes.len() % NODE_BYTES == 0)
         & (1 <= count)
         & (count <= MAX_NODES)
-        & (list.len() % 4 == 0)
-        & (list.len() / 4 <= MAX_LIST_WORDS)
-        & (names.len() % 4 == 0)
+        & (list.len() % WORD_BYTES == 0)
+        & (list.len() / WORD_BYTES <= MAX_LIST_WORDS)
+        & (names.len() % WORD_BYTES == 0)
 }
 
 // 4: whether boolean and operator words are in their ranges, unused words 0.
@@ -89,7 +91,7 @@ fn number_allowed(kind: u32, low: u32, high: u32) -> bool
     ensures { λ r. ⌜ r ≡ question5 kind low high ⌝ }
 {
     if kind == kind::NUMBER {
-        let bits = 4294967296 * (high as u64) + (low as u64);
+        let bits = WORD_END * (high as u64) + (low as u64);
         !is_nan(bits) & !((low == 0) & (high == MINUS_ZERO_HIGH))
     } else {
         true
@@ -252,7 +254,7 @@ pub fn check(nodes: &[u8], list: &[u8], names: &[u8], mode: u32, root: u32) -> C
     if let Checked::Refused { .. } = answer {
         return answer;
     }
-    let parameters_fit = names.len() / 4 <= MAX_PARAMETERS;
+    let parameters_fit = names.len() / WORD_BYTES <= MAX_PARAMETERS;
     if !parameters_fit {
         return Checked::Refused {
             refusal: Refusal::Parameters,

@@ -11,6 +11,17 @@ use Rattle.runtime.specs.declared.instruction.Instruction.{Instruction}
 abbrev pub instructionWidth : ℕ
 instructionWidth = 4
 
+-- "the kind 41 to 53": the kinds of the first and of the last jump
+abbrev pub firstJump : ℕ
+firstJump = 41
+
+abbrev pub lastJump : ℕ
+lastJump = 53
+
+-- "An offset is a two's-complement word": from here on it is negative
+abbrev pub offsetEnd : ℕ
+offsetEnd = 2147483648
+
 -- the words of an instruction; unused words are 0, an offset is its two's-complement word
 unfoldable pub wordsOf : Instruction → List ℕ
 wordsOf (Instruction.Add dest src1 src2) = 0 ∷ dest ∷ src1 ∷ src2 ∷ []
@@ -145,11 +156,11 @@ hasDestination kind =
     (cond (ltb kind 38) false
     (ltb kind 40))))))
 
--- the word of a jump, "the kind 41 to 53", that is its offset: 1 in Jump (41), 2 in JumpIfFalse and JumpIfTrue (42, 43), 3 in the ten fused
+-- the word of a jump that is its offset: 1 in Jump (41), 2 in JumpIfFalse and JumpIfTrue (42, 43), 3 in the ten fused
 -- jumps (44 to 53). A kind that is no jump has none: 0, the kind's own word.
 unfoldable pub offsetWord : ℕ → ℕ
 offsetWord kind =
-    cond (ltb kind 41) 0
+    cond (ltb kind firstJump) 0
     (cond (ltb kind 42) 1
     (cond (ltb kind 44) 2
     (cond (ltb kind 54) 3

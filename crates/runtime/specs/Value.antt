@@ -7,15 +7,20 @@ use mathlib.Core.Bool.{Bool, true, cond, not}
 use lib.Dec.{T}
 use lib.IntN.{pos}
 use lib.Ieee.{Float, fin, binary64, fits, isNan, ofBits, toBits}
+use Rattle.words.specs.Words.{wordEnd}
 use Rattle.runtime.specs.declared.operand.Operand.{Operand}
 
 -- the width of a constant record
 abbrev pub constantWidth : ℕ
 constantWidth = 3
 
+-- 64 bits from two words
+abbrev pub partsBits : ℕ → ℕ → ℕ
+partsBits low high = wordEnd * high + low
+
 -- a number: "low word, high word of the binary64 bits"
 unfoldable pub numberOf : ℕ → ℕ → Float
-numberOf low high = ofBits binary64 (4294967296 * high + low)
+numberOf low high = ofBits binary64 (partsBits low high)
 
 abbrev pub numberBits : Float → ℕ
 numberBits x = toBits binary64 x
@@ -24,7 +29,7 @@ numberBits x = toBits binary64 x
 unfoldable pub constantWords : Operand → List ℕ
 constantWords Operand.Nil = 0 ∷ 0 ∷ 0 ∷ []
 constantWords (Operand.Boolean b) = 1 ∷ cond b 1 0 ∷ 0 ∷ []
-constantWords (Operand.Number x) = 2 ∷ numberBits x % 4294967296 ∷ numberBits x / 4294967296 ∷ []
+constantWords (Operand.Number x) = 2 ∷ numberBits x % wordEnd ∷ numberBits x / wordEnd ∷ []
 constantWords (Operand.String symbol) = 3 ∷ symbol ∷ 0 ∷ []
 constantWords (Operand.Register r) = 0 ∷ 0 ∷ 0 ∷ []
 
@@ -37,10 +42,6 @@ tagBool = 4294901762
 
 abbrev pub tagString : ℕ
 tagString = 4294901763
-
--- value.rs: 64 bits from two words, the payload low and the tag high
-abbrev pub partsBits : ℕ → ℕ → ℕ
-partsBits low high = 4294967296 * high + low
 
 -- value.rs: a constant's 64 bits, which its `eq` compares: the payload low and the tag high, or a number's own bits; a register is no constant,
 -- and gets those of nil
@@ -56,5 +57,5 @@ abbrev pub Admitted : Operand → Type 0
 Admitted Operand.Nil = Unit
 Admitted (Operand.Boolean b) = Unit
 Admitted (Operand.Number x) = T (fits binary64 x) × T (not (isNan x)) × (x ≢ fin true 0 (pos 0))
-Admitted (Operand.String symbol) = symbol < 4294967296
+Admitted (Operand.String symbol) = symbol < wordEnd
 Admitted (Operand.Register r) = ⊥

@@ -3,6 +3,7 @@ ghost use mathlib.Core.Path.{_≡_};
 ghost use lib.Ieee.{binary64, nanBits};
 ghost use Rattle.runtime.specs.Value.{numberOf, numberBits, constantWords};
 use crate::operand::Operand;
+use words::WORD_END;
 
 // The words of a constant record.
 pub const CONSTANT_WORDS: usize = 3;
@@ -21,7 +22,7 @@ pub fn is_nan(bits: u64) -> bool
 pub fn number(low: u32, high: u32) -> f64
     ensures { λ r. ⌜ r ≡ numberOf low high ⌝ }
 {
-    let bits = 4294967296 * (high as u64) + (low as u64);
+    let bits = WORD_END * (high as u64) + (low as u64);
     if is_nan(bits) {
         0.0 / 0.0
     } else {
@@ -49,7 +50,7 @@ pub fn constant_words(constant: Operand) -> [u32; CONSTANT_WORDS]
         Operand::Boolean(value) => [1, value as u32, 0],
         Operand::Number(value) => {
             let bits = number_bits(value);
-            [2, (bits % 4294967296) as u32, (bits / 4294967296) as u32]
+            [2, (bits % WORD_END) as u32, (bits / WORD_END) as u32]
         }
         Operand::String(symbol) => [3, symbol, 0],
         Operand::Register(_) => [0, 0, 0],

@@ -11,9 +11,10 @@ use Rattle.diagnostics.specs.declared.Refusal.{Refusal}
 use Rattle.diagnostics.specs.declared.Place.{Place}
 use Rattle.diagnostics.specs.declared.Error.{Error}
 use Rattle.diagnostics.specs.Refusal.{refusalNumber}
+pub use Rattle.words.specs.Words.{wordEnd}
 use Rattle.environment.specs.declared.Register.{Register}
 use Rattle.environment.specs.declared.RegisterSet.{RegisterSet}
-use Rattle.environment.specs.Registers.{allFree}
+use Rattle.environment.specs.Registers.{registerCount, allFree}
 use Rattle.syntax.specs.declared.ast.Node.{Node}
 use Rattle.runtime.specs.declared.operand.Operand.{Operand}
 use Rattle.lowering.specs.declared.Dest.{Dest}
@@ -26,7 +27,7 @@ use Rattle.lowering.specs.Lower.{Source, register, constant}
 
 -- a register: a temporary's number, or a local's and 256 more
 unfoldable pub registerAt : ℕ → Register
-registerAt w = cond (ltb w 256) (Register.Temp w) (Register.Local (w % 256))
+registerAt w = cond (ltb w registerCount) (Register.Temp w) (Register.Local (w % registerCount))
 
 -- no register, and any register
 abbrev pub none : ℕ
@@ -56,9 +57,6 @@ unfoldable pub sourceAt : Operand → ℕ → Source
 sourceAt c w = cond (eqb w literalWord) (constant c) (register (registerAt w))
 
 -- An answer of 64 bits: a word; from 2^63 on a refusal, with its number above the place
-abbrev pub wordEnd : ℕ
-wordEnd = 4294967296
-
 abbrev pub refusalStart : ℕ
 refusalStart = 9223372036854775808
 

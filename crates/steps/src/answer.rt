@@ -2,11 +2,14 @@
 // and REGISTERS more.
 ghost use mathlib.Core.Path.{_≡_};
 ghost use Prim.Native.Nat.{_+_, _%_};
+ghost use Rattle.environment.specs.Registers.{registerCount};
 ghost use Rattle.runtime.specs.Operands.{regOf};
 ghost use Rattle.steps.specs.Answers.{registerAt, numberAt, wordEnd, refusalWord, isRefusal, valueOf, numberOfRefusal, isInner};
 use diagnostics::Place;
 use diagnostics::Refusal;
+use environment::REGISTERS;
 use lowering::State;
+use words::WORD_END;
 
 // The state afterwards, and the answer.
 pub struct Lowered {
@@ -21,9 +24,6 @@ pub struct Emitted {
     pub answer: u64,
 }
 
-// How many registers there are.
-const REGISTERS: u32 = 256;
-
 // The word of a destination where any register will do.
 pub const ANY: u32 = 512;
 
@@ -36,12 +36,9 @@ pub const NONE: u32 = 4294967295;
 // Answers from here on are refusals: the test is one of the sign, which the compiler takes for rare.
 const REFUSED: u64 = 0x8000_0000_0000_0000;
 
-// How many values a word has.
-const WORDS: u64 = 4294967296;
-
 // The register of local `number`.
 pub fn local(number: u32) -> u32
-    ensures { λ r. ⌜ r ≡ 256 + number % 256 ⌝ }
+    ensures { λ r. ⌜ r ≡ registerCount + number % registerCount ⌝ }
 {
     REGISTERS + number % REGISTERS
 }
@@ -67,19 +64,19 @@ pub fn number_at(place: Place) -> u32
 pub fn inner(node: u32) -> u64
     ensures { λ r. ⌜ r ≡ wordEnd + node ⌝ }
 {
-    WORDS + (node as u64)
+    WORD_END + (node as u64)
 }
 
 pub fn is_inner(answer: u64) -> bool
     ensures { λ r. ⌜ r ≡ isInner answer ⌝ }
 {
-    answer / WORDS == 1
+    answer / WORD_END == 1
 }
 
 pub fn refusal_at(refusal: Refusal, place: u32) -> u64
     ensures { λ r. ⌜ r ≡ refusalWord refusal place ⌝ }
 {
-    REFUSED + WORDS * (refusal.number() as u64) + (place as u64)
+    REFUSED + WORD_END * (refusal.number() as u64) + (place as u64)
 }
 
 pub fn is_refusal(answer: u64) -> bool
@@ -93,7 +90,7 @@ pub fn number_of(answer: u64) -> u32
     ensures { λ r. ⌜ r ≡ numberOfRefusal answer ⌝ }
 {
     if REFUSED <= answer {
-        ((answer - REFUSED) / WORDS) as u32
+        ((answer - REFUSED) / WORD_END) as u32
     } else {
         0
     }
@@ -103,7 +100,7 @@ pub fn number_of(answer: u64) -> u32
 pub fn value_of(answer: u64) -> u32
     ensures { λ r. ⌜ r ≡ valueOf answer ⌝ }
 {
-    (answer % WORDS) as u32
+    (answer % WORD_END) as u32
 }
 
 pub fn answered(state: State, value: u32) -> Lowered

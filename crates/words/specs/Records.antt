@@ -23,6 +23,7 @@ recordAt w ws p = take w (drop (w * p) ws)
 unfoldable pub putRecord : ℕ → List ℕ → ℕ → List ℕ → List ℕ
 putRecord w ws p r = sets ws (w * p) r
 
+-- whether two lists are the same
 unfoldable pub sameWords : List ℕ → List ℕ → Bool
 sameWords [] [] = true
 sameWords [] (y ∷ ys) = false

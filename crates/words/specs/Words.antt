@@ -3,6 +3,17 @@ use Prim.Native.Nat.{ℕ, _+_, _*_, _/_, _%_}
 use mathlib.Core.List.{List, [], _∷_}
 use lib.ListN.{length, drop}
 
+-- the bytes of a word
+abbrev pub wordBytes : ℕ
+wordBytes = 4
+
+-- "words are 32 bits, unsigned": words are below it, and bytes below the other
+abbrev pub wordEnd : ℕ
+wordEnd = 4294967296
+
+abbrev pub byteEnd : ℕ
+byteEnd = 256
+
 -- the word of four bytes, the low one first
 unfoldable pub wordOf : ℕ → ℕ → ℕ → ℕ → ℕ
 wordOf a b c d = a + 256 * b + 65536 * c + 16777216 * d
@@ -17,7 +28,7 @@ words (a ∷ b ∷ c ∷ d ∷ s) = wordOf a b c d ∷ words s
 
 -- the bytes past the last whole word
 unfoldable pub tail : List ℕ → List ℕ
-tail s = drop (4 * (length s / 4)) s
+tail s = drop (wordBytes * (length s / wordBytes)) s
 
 -- the bytes of a list of words
 unfoldable pub bytesOf : List ℕ → List ℕ

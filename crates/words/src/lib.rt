@@ -3,7 +3,7 @@ ghost use mathlib.Core.Path.{_≡_};
 ghost use Prim.Native.Nat.{_+_, _<_, _≤_};
 ghost use lib.ListN.{length, getD, set, take, drop};
 ghost use lib.Seq.{sets};
-ghost use Rattle.words.specs.Words.{words, tail};
+ghost use Rattle.words.specs.Words.{byteEnd, words, tail};
 ghost use Rattle.words.specs.Records.{capacity, sameWords, position, lastPosition, append, appended, buffer};
 ghost use Rattle.diagnostics.specs.declared.Refusal.{Refusal};
 use diagnostics::Place;
@@ -14,6 +14,12 @@ pub struct Appended {
     pub place: Place,
 }
 
+// The bytes of a word.
+pub const WORD_BYTES: usize = 4;
+
+// Words are below it.
+pub const WORD_END: u64 = 4294967296;
+
 // The most records that a count of 32 bits can say.
 pub const MAX_COUNT: u32 = 4294967295;
 
@@ -21,7 +27,7 @@ pub const MAX_COUNT: u32 = 4294967295;
 pub const FULL: u32 = 4294967295;
 
 fn wide(x: u8) -> u32
-    ensures { λ r. ⌜ (r ≡ x) × (r < 256) ⌝ }
+    ensures { λ r. ⌜ (r ≡ x) × (r < byteEnd) ⌝ }
 {
     x as u32
 }
@@ -31,17 +37,21 @@ fn whole_word(s: &[u8], i: usize) -> u32
     requires { ⌜ i < length (words (now s)) ⌝ }
     ensures { λ r. ⌜ r ≡ getD (words (now (s .entry))) i 0 ⌝ }
 {
-    wide(s[4 * i])
-        + 256 * wide(s[4 * i + 1])
-        + 65536 * wide(s[4 * i + 2])
-        + 16777216 * wide(s[4 * i + 3])
+    wide(s[WORD_BYTES * i])
+        + 256 * wide(s[WORD_BYTES * i + 1])
+        + 65536 * wide(s[WORD_BYTES * i + 2])
+        + 16777216 * wide(s[WORD_BYTES * i + 3])
 }
 
 // The word at i; 0 past the last whole word.
 pub fn word(s: &[u8], i: usize) -> u32
     ensures { λ r. ⌜ r ≡ getD (words (now (s .entry))) i 0 ⌝ }
 {
-    if i < s.len() / 4 { whole_word(s, i) } else { 0 }
+    if i < s.len() / WORD_BYTES {
+        whole_word(s, i)
+    } else {
+        0
+    }
 }
 
 // Sets the word at i, which is one of the whole words, to x.
@@ -50,10 +60,10 @@ fn put_whole(s: &mut [u8], i: usize, x: u32)
     ensures words { λ _. ⌜ words (now (s .exit)) ≡ set (words (now (s .entry))) i x ⌝ }
     ensures tail { λ _. ⌜ tail (now (s .exit)) ≡ tail (now (s .entry)) ⌝ }
 {
-    s[4 * i] = (x % 256) as u8;
-    s[4 * i + 1] = (x / 256 % 256) as u8;
-    s[4 * i + 2] = (x / 65536 % 256) as u8;
-    s[4 * i + 3] = (x / 16777216) as u8;
+    s[WORD_BYTES * i] = (x % 256) as u8;
+    s[WORD_BYTES * i + 1] = (x / 256 % 256) as u8;
+    s[WORD_BYTES * i + 2] = (x / 65536 % 256) as u8;
+    s[WORD_BYTES * i + 3] = (x / 16777216) as u8;
 }
 
 // Sets the word at i to x; past the last whole word nothing changes.
@@ -61,7 +71,7 @@ pub fn put_word(s: &mut [u8], i: usize, x: u32)
     ensures words { λ _. ⌜ words (now (s .exit)) ≡ set (words (now (s .entry))) i x ⌝ }
     ensures tail { λ _. ⌜ tail (now (s .exit)) ≡ tail (now (s .entry)) ⌝ }
 {
-    if i < s.len() / 4 {
+    if i < s.len() / WORD_BYTES {
         put_whole(s, i, x);
     }
 }
@@ -84,7 +94,7 @@ pub fn put_words(s: &mut [u8], at: usize, xs: &[u32])
     ensures words { λ _. ⌜ words (now (s .exit)) ≡ sets (words (now (s .entry))) at (now (xs .entry)) ⌝ }
     ensures tail { λ _. ⌜ tail (now (s .exit)) ≡ tail (now (s .entry)) ⌝ }
 {
-    let end = s.len() / 4;
+    let end = s.len() / WORD_BYTES;
     if at <= end {
         let room = end - at;
         if room < xs.len() {
@@ -99,7 +109,11 @@ pub fn put_words(s: &mut [u8], at: usize, xs: &[u32])
 pub fn capacity(s: &[u8], width: usize) -> usize
     ensures { λ r. ⌜ r ≡ capacity width (words (now (s .entry))) ⌝ }
 {
-    if width == 0 { 0 } else { s.len() / 4 / width }
+    if width == 0 {
+        0
+    } else {
+        s.len() / WORD_BYTES / width
+    }
 }
 
 // Puts a record after the first `count` ones, if fewer than `limit` are made and the buffer has room for it. The answer is its place, or FULL.
@@ -170,7 +184,7 @@ pub fn position(s: &[u8], count: u32, item: &[u32]) -> u32
 pub fn last_position(s: &[u8], count: u32, x: u32) -> u32
     ensures { λ r. ⌜ r ≡ lastPosition (words (now (s .entry))) count x ⌝ }
 {
-    let words = s.len() / 4;
+    let words = s.len() / WORD_BYTES;
     let mut i = count as usize;
     if words < i {
         if x == 0 {

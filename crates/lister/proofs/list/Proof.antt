@@ -2,9 +2,9 @@
 use mathlib.Core.Path.{sym, _∙_}
 use Prim.Native.Nat.{ℕ, _*_}
 use lib.ListN.{length-replicate}
+use Rattle.words.specs.Words.{wordBytes}
 use Rattle.syntax.specs.Ast.{nodeWidth}
 use Rattle.listing.specs.Text.{listWidth, nameWidth, nodesBound, listWordsBound, parametersBound}
-use Rattle.lister.specs.Lister.{wordBytes}
 use Rattle.lister.proofs.Laws.{fits, good-listing, bad-listing}
 use borrow.Author.Needs.{needs}
 use Rattle.lister.proofs.list.Statement.{statement}
