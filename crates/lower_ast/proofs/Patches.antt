@@ -12,7 +12,7 @@ use Rattle.diagnostics.specs.declared.Refusal.{Refusal}
 use Rattle.diagnostics.specs.declared.Error.{Error}
 use Rattle.words.specs.Words.{words, tail, bytesOf}
 use Rattle.words.proofs.Words.{bytes-words}
-use Rattle.runtime.specs.Instruction.{hasDestination}
+use Rattle.runtime.specs.Instruction.{instructionWidth, hasDestination}
 use Rattle.lowering.specs.declared.State.{State}
 use Rattle.lowering.specs.Walk.{Made, made, ends, stops, error, bind}
 use Rattle.lowering.specs.Steps.{patchArgument, patchMarks}
@@ -23,15 +23,15 @@ bytes-are entry exit ws w t h = rw (← w, ← t) (sym (bytes-words exit h))
 
 -- one argument, by its instruction's kind and destination
 module _ (code constants marks : List ℕ) (s : State) (place frame kind : ℕ)
-    (f : s .registers .«frame_size» ≡ frame) (k : kind ≡ getD code (4 * place) 0) where
+    (f : s .registers .«frame_size» ≡ frame) (k : kind ≡ getD code (instructionWidth * place) 0) where
   pub argument-none : hasDestination kind ≡ false
       → patchArgument place (made code constants marks s) ≡ stops (error Refusal.Destination place 0 0) (made code constants marks s)
   unfolding patchArgument
   argument-none none = rw (← k, none)
 
-  module _ (dest : ℕ) (yes : hasDestination kind ≡ true) (d : dest ≡ getD code (4 * place + 1) 0) where
+  module _ (dest : ℕ) (yes : hasDestination kind ≡ true) (d : dest ≡ getD code (instructionWidth * place + 1) 0) where
     pub argument-done : dest + frame ≤ 255
-        → patchArgument place (made code constants marks s) ≡ ends tt (made (set code (4 * place + 1) (dest + frame)) constants marks s)
+        → patchArgument place (made code constants marks s) ≡ ends tt (made (set code (instructionWidth * place + 1) (dest + frame)) constants marks s)
     unfolding patchArgument
     argument-done h = rw (← k, yes, ← d, f, le-leb _ _ h)
 

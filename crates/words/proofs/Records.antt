@@ -104,7 +104,7 @@ take-drop (suc w) (suc n) [] = let e : suc n + suc w ≡ suc (n + suc w) = omega
 take-drop w (suc n) (x ∷ l) = let e : suc n + w ≡ suc (n + w) = omega arith in rw e (take-drop w n l)
 
 -- records q and p, q first: q ends where p starts, or before
-ends-before : (w : ℕ) {q p : ℕ} → q < p → w * q + w ≤ w * p
+pub ends-before : (w : ℕ) {q p : ℕ} → q < p → w * q + w ≤ w * p
 ends-before w {q} {p} h = rw (← mul-suc w q) (mul-le-mul-left w h)
 
 -- a record has place exactly where its index is below the capacity
@@ -145,6 +145,15 @@ module _ (w : ℕ) (ws : List ℕ) (p : ℕ) (r : List ℕ) where
           let b : w * p + length r ≤ w * q = omega (arith, ends-before w {q = p} {p = q} (omega arith)) in
           ap (take w) (drop-sets (w * q) ws (w * p) r b)
 
+  -- every word before the record that is put, and past it, is as it was
+  pub put-before : (i : ℕ) → i < w * p → getD (putRecord w ws p r) i 0 ≡ getD ws i 0
+  unfolding putRecord
+  put-before i h = getD-sets-before ws (w * p) r i h
+
+  pub put-past : length r ≡ w → (i : ℕ) → w * p + w ≤ i → getD (putRecord w ws p r) i 0 ≡ getD ws i 0
+  unfolding putRecord
+  put-past e i h = getD-sets-past ws (w * p) r i (omega arith)
+
   -- put after put: at the same place the later one stays; at two places the order does not matter
   pub record-put-same : (r′ : List ℕ) → length r ≡ length r′ → putRecord w (putRecord w ws p r) p r′ ≡ putRecord w ws p r′
   unfolding putRecord
@@ -163,6 +172,14 @@ module _ (w : ℕ) (ws : List ℕ) (p : ℕ) (r : List ℕ) where
 pub record-word : (w : ℕ) (ws : List ℕ) (p k : ℕ) → k < w → getD (recordAt w ws p) k 0 ≡ getD ws (w * p + k) 0
 unfolding recordAt
 record-word w ws p k h = rw (getD-take, getD-drop)
+
+-- word k of the record that is put, and of any other
+module _ (w : ℕ) (ws : List ℕ) (p : ℕ) (r : List ℕ) (e : length r ≡ w) (k : ℕ) (l : k < w) where
+  pub put-same : p < capacity w ws → getD (putRecord w ws p r) (w * p + k) 0 ≡ getD r k 0
+  put-same h = sym (record-word w (putRecord w ws p r) p k l) ∙ ap (λ x. getD x k 0) (record-same w ws p r e h)
+
+  pub put-other : (q : ℕ) → q ≢ p → getD (putRecord w ws p r) (w * q + k) 0 ≡ getD ws (w * q + k) 0
+  put-other q n = sym (record-word w (putRecord w ws p r) q k l) ∙ ap (λ x. getD x k 0) (record-other w ws p r q e n) ∙ record-word w ws q k l
 
 -- an append, by what it asks
 module _ (ws : List ℕ) (count limit : ℕ) (r : List ℕ) (refusal : Refusal) where

@@ -13,13 +13,13 @@ use lib.ListN.{length, getD, take, drop, length-take, length-drop, List·getD-eq
 use lib.Seq.{getD-take, getD-drop}
 use borrow.Author.Tests.{ltb-true, leb-true, eqb-true, ne-eqb, not-true}
 use Rattle.diagnostics.specs.declared.Refusal.{Refusal}
-use Rattle.words.specs.Words.{words}
+use Rattle.words.specs.Words.{wordBytes, words}
 use Rattle.words.specs.Records.{capacity}
 use Rattle.words.proofs.Words.{length-words}
 use Rattle.syntax.specs.declared.ast.Node.{Node}
 use Rattle.syntax.specs.Ast.{nodeWidth, nodeWord, nodeAt, nodeKinds, absent}
 use Rattle.lowering.specs.Tree.{treeOf, Tree, node, present, entryNodes, children}
-use Rattle.lowering.specs.Questions.{whole, question1, question2, question3, question4, question5, question6, question7, allBelow, Verdict, passed, refused, ask, askNode, askNodes, questions}
+use Rattle.lowering.specs.Questions.{maxNodes, maxListWords, whole, question1, question2, question3, question4, question5, question6, question7, allBelow, Verdict, passed, refused, ask, askNode, askNodes, questions}
 use Rattle.lowering.specs.Checked.{CheckedNode, Checked, NodeNo, no-kind, no-unused, no-number, no-list, no-order, nodesIn, AllYes, FirstNo, no-size, no-root, no-node, no-parameters, Below}
 
 -- a conjunction's parts
@@ -246,22 +246,22 @@ module _ {t : Tree} where
 
 -- question 1 answered yes, by its parts: of the bytes, and of the words
 pub record Sizes (nodes list names : List ℕ) : Type 0 where
-  pub nodes-whole : length nodes % 24 ≡ 0
+  pub nodes-whole : length nodes % (wordBytes * nodeWidth) ≡ 0
   pub some-nodes : 1 ≤ capacity nodeWidth (words nodes)
-  pub few-nodes : capacity nodeWidth (words nodes) ≤ 4096
-  pub list-whole : length list % 4 ≡ 0
-  pub list-short : length (words list) ≤ 8192
-  pub names-whole : length names % 4 ≡ 0
+  pub few-nodes : capacity nodeWidth (words nodes) ≤ maxNodes
+  pub list-whole : length list % wordBytes ≡ 0
+  pub list-short : length (words list) ≤ maxListWords
+  pub names-whole : length names % wordBytes ≡ 0
 
 pub question1-sizes : (nodes list names : List ℕ) → question1 nodes list names ≡ true → Sizes nodes list names
 unfolding question1 whole
 question1-sizes nodes list names h =
-    let a : Bool = eqb (length nodes % 24) 0 in
+    let a : Bool = eqb (length nodes % (wordBytes * nodeWidth)) 0 in
     let b : Bool = leb 1 (capacity nodeWidth (words nodes)) in
-    let c : Bool = leb (capacity nodeWidth (words nodes)) 4096 in
-    let d : Bool = eqb (length list % 4) 0 in
-    let e : Bool = leb (length (words list)) 8192 in
-    let f : Bool = eqb (length names % 4) 0 in
+    let c : Bool = leb (capacity nodeWidth (words nodes)) maxNodes in
+    let d : Bool = eqb (length list % wordBytes) 0 in
+    let e : Bool = leb (length (words list)) maxListWords in
+    let f : Bool = eqb (length names % wordBytes) 0 in
     let h5 : (a && b && c && d && e) ≡ true = and-left (a && b && c && d && e) f h in
     let h4 : (a && b && c && d) ≡ true = and-left (a && b && c && d) e h5 in
     let h3 : (a && b && c) ≡ true = and-left (a && b && c) d h4 in

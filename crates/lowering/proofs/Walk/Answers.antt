@@ -16,7 +16,8 @@ use Rattle.diagnostics.specs.Refusal.{refusalNumber}
 use Rattle.words.specs.Words.{words}
 use Rattle.words.specs.Records.{capacity}
 use Rattle.words.proofs.Records.{room}
-use Rattle.runtime.specs.Instruction.{offsetWord}
+use Rattle.runtime.specs.Instruction.{instructionWidth, firstJump, lastJump, offsetWord}
+use Rattle.runtime.specs.Value.{constantWidth}
 use Rattle.lowering.specs.Tree.{Tree, treeOf}
 use Rattle.lowering.specs.Checked.{AllYes, FirstNo}
 use Rattle.lowering.specs.Walk.{Made, stops, left}
@@ -155,16 +156,16 @@ module _ (nodes : List ℕ) (root mode : ℕ) (list names code constants marks :
       markCount nodes root mode list names code constants marks ≡ marksOf m → Within nodes root mode list names code constants marks (leaves r m)
   unfolding begin
   grown-within r m g e f k = record {
-    code-length = g .code-length;
-    constants-length = g .constants-length;
-    marks-length = g .marks-length;
-    code-past = λ i h. g .code-past i (rw e at h);
-    constants-past = λ i h. g .constants-past i (rw f at h);
-    code-fits = rw (e, sym (same-capacity 4 (m .code) code (g .code-length))) (g .code-fits (omega arith));
+    code-length = g .in-code .same-length;
+    constants-length = g .in-constants .same-length;
+    marks-length = g .in-marks .same-length;
+    code-past = λ i h. g .in-code .past i (rw e at h);
+    constants-past = λ i h. g .in-constants .past i (rw f at h);
+    code-fits = rw (e, sym (same-capacity instructionWidth (m .code) code (g .in-code .same-length))) (g .in-code .fits (omega arith));
     code-few = rw e (g .code-few (omega arith));
-    constants-fit = rw (f, sym (same-capacity 3 (m .constants) constants (g .constants-length))) (g .constants-fit (omega arith));
-    marks-past = λ i h. g .marks-past i (rw k at h);
-    marks-fit = subst (λ n. n ≤ capacity 1 marks) (sym k) (rw (sym (same-capacity 1 (m .marks) marks (g .marks-length))) (g .marks-fit (omega arith)));
+    constants-fit = rw (f, sym (same-capacity constantWidth (m .constants) constants (g .in-constants .same-length))) (g .in-constants .fits (omega arith));
+    marks-past = λ i h. g .in-marks .past i (omega (arith, k));
+    marks-fit = subst (λ n. n ≤ capacity 1 marks) (sym k) (rw (sym (same-capacity 1 (m .marks) marks (g .in-marks .same-length))) (g .in-marks .fits (omega arith)));
   }
 
   no-marks : (r : Refusal) (place : ℕ) → FirstNo nodes list names mode root r place → markCount nodes root mode list names code constants marks ≡ 0
@@ -204,9 +205,9 @@ module _ (words : List ℕ) (count index offset : ℕ) where
   unfolding canPatch
   can-may h =
       let a : Bool = ltb index count in
-      let b : Bool = leb count (capacity 4 words) in
-      let c : Bool = leb 41 (kind words count index offset) in
-      let d : Bool = leb (kind words count index offset) 53 in
+      let b : Bool = leb count (capacity instructionWidth words) in
+      let c : Bool = leb firstJump (kind words count index offset) in
+      let d : Bool = leb (kind words count index offset) lastJump in
       let h3 : (a && b && c) ≡ true = and-left (a && b && c) d h in
       let h2 : (a && b) ≡ true = and-left (a && b) c h3 in
       record {
@@ -217,7 +218,7 @@ module _ (words : List ℕ) (count index offset : ℕ) where
 
   pub may-can : MayPatch words count index offset → canPatch words count index ≡ true
   unfolding canPatch
-  may-can h = rw (lt-ltb index count (h .below), le-leb count (capacity 4 words) (h .within-buffer), le-leb 41 (kind words count index offset) (h .jump .low), le-leb (kind words count index offset) 53 (h .jump .high))
+  may-can h = rw (lt-ltb index count (h .below), le-leb count (capacity instructionWidth words) (h .within-buffer), le-leb firstJump (kind words count index offset) (h .jump .low), le-leb (kind words count index offset) lastJump (h .jump .high))
 
   -- Only: from patching, 0 or 19
   pub only-patching : (patchJump words count index offset .number ≡ 0) ⊎ (patchJump words count index offset .number ≡ 19)
@@ -239,9 +240,9 @@ module _ (words : List ℕ) (count index offset : ℕ) where
       yes-of false h = absurd (omega arith)
 
   pub refused-exactly : (patchJump words count index offset .number ≡ 19) ↔ MayNot words count index offset
-  refused-exactly = (λ h. why h (decLt index count) (decLe count (capacity 4 words)) (decLe 41 (kind words count index offset)) (decLe (kind words count index offset) 53), λ h. refuses h only-patching)
+  refused-exactly = (λ h. why h (decLt index count) (decLe count (capacity instructionWidth words)) (decLe firstJump (kind words count index offset)) (decLe (kind words count index offset) lastJump), λ h. refuses h only-patching)
     where
-      why : patchJump words count index offset .number ≡ 19 → Dec (index < count) → Dec (count ≤ capacity 4 words) → Dec (41 ≤ kind words count index offset) → Dec (kind words count index offset ≤ 53) → MayNot words count index offset
+      why : patchJump words count index offset .number ≡ 19 → Dec (index < count) → Dec (count ≤ capacity instructionWidth words) → Dec (firstJump ≤ kind words count index offset) → Dec (kind words count index offset ≤ lastJump) → MayNot words count index offset
       why h (no a) b c d = index-past (omega arith)
       why h (yes a) (no b) c d = count-past (omega arith)
       why h (yes a) (yes b) (no c) d = kind-below (omega arith)
@@ -275,12 +276,12 @@ module _ (words : List ℕ) (count index offset : ℕ) where
   patch-writes-one h =
       let p : MayPatch words count index offset = patched-exactly .0 h in
       let small : offsetWord (kind words count index offset) < 4 = offset-small (kind words count index offset) in
-      let fits : 4 * index + 4 ≤ length words = room 4 words index (omega (arith, p .below, p .within-buffer)) in
+      let fits : instructionWidth * index + instructionWidth ≤ length words = room instructionWidth words index (omega (arith, p .below, p .within-buffer)) in
       rw (may-can p)
       (record {
-        same-length = length-set words (4 * index + offsetWord (kind words count index offset)) offset;
+        same-length = length-set words (instructionWidth * index + offsetWord (kind words count index offset)) offset;
         jump = p .jump;
         inside = omega arith;
-        set-there = getD-set-same words (4 * index + offsetWord (kind words count index offset)) offset 0 (omega arith);
-        others = λ i n. getD-set-other words (4 * index + offsetWord (kind words count index offset)) i offset 0 n;
+        set-there = getD-set-same words (instructionWidth * index + offsetWord (kind words count index offset)) offset 0 (omega arith);
+        others = λ i n. getD-set-other words (instructionWidth * index + offsetWord (kind words count index offset)) i offset 0 n;
       })

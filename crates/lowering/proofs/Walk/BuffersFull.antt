@@ -8,6 +8,8 @@ use lib.ListN.{length}
 use Rattle.diagnostics.specs.declared.Error.{Error}
 use Rattle.diagnostics.specs.Refusal.{refusalNumber}
 use Rattle.words.specs.Records.{capacity, maxCount}
+use Rattle.runtime.specs.Value.{constantWidth}
+use Rattle.runtime.specs.Function.{maxInstructions}
 use Rattle.lowering.specs.Tree.{Tree, treeOf}
 use Rattle.lowering.specs.Walk.{Made, left}
 use Rattle.lowering.specs.Result.{Lowered, begin, lower}
@@ -23,7 +25,7 @@ use Rattle.lowering.proofs.Walk.MarksMade.{marks-few}
 
 -- what 14 and 16 say of a buffer
 module _ {t : Tree} {root : ℕ} where
-  own-constants : {e : Error} {m : Made} → Own t root e m → refusalNumber (e .refusal) ≡ 14 → constantsOf m ≤ 4096 → capacity 3 (m .constants) ≤ constantsOf m
+  own-constants : {e : Error} {m : Made} → Own t root e m → refusalNumber (e .refusal) ≡ 14 → constantsOf m ≤ 4096 → capacity constantWidth (m .constants) ≤ constantsOf m
   own-constants (constants-own o u (inl h)) z f = h
   own-constants (constants-own o u (inr h)) z f = absurd (omega arith)
   own-constants (undeclared r e f) z g = absurd (omega arith)
@@ -59,16 +61,16 @@ module _ (nodes : List ℕ) (root mode : ℕ) (list names code constants marks :
 
   -- 14: no whole record is left for a constant
   full-constants : {l : Lowered} → Came nodes root mode list names code constants marks l → l .result .number ≡ 14 → Fit nodes root mode list names code constants marks l →
-      capacity 3 constants ≤ l .result .constants
+      capacity constantWidth constants ≤ l .result .constants
   unfolding left begin
   full-constants (before h) e f = absurd (omega (arith, first-number h .1))
   full-constants (accepted y q r) e f = absurd (omega arith)
   full-constants (stopped {m = m} y q r o) e f =
       let g : Grows from m = runs-grow r in
-      rw (sym (same-capacity 3 (m .constants) constants (g .constants-length))) (own-constants o e (f .few-constants))
+      rw (sym (same-capacity constantWidth (m .constants) constants (g .in-constants .same-length))) (own-constants o e (f .few-constants))
 
   pub constants-full : lower nodes root mode list names code constants marks .result .number ≡ 14 →
-      capacity 3 constants ≤ lower nodes root mode list names code constants marks .result .constants
+      capacity constantWidth constants ≤ lower nodes root mode list names code constants marks .result .constants
   constants-full e = full-constants (lower-came nodes root mode list names code constants marks) e (nothing-cut nodes root mode list names code constants marks)
 
   -- 16: no word is left for a mark
@@ -79,12 +81,12 @@ module _ (nodes : List ℕ) (root mode : ℕ) (list names code constants marks :
   full-marks (accepted y q r) e = absurd (omega arith)
   full-marks (stopped {e = f} {m = m} y q r o) e =
       let g : Grows from m = runs-grow r in
-      let few : instructionsOf m ≤ 1048576 = g .code-few (omega arith) in
+      let few : instructionsOf m ≤ maxInstructions = g .code-few (omega arith) in
       let small = question2-parts mode root _ (y .start) .1 in
       let size = question1-sizes nodes list names (y .size) .few-nodes in
       let bound : marksOf m ≤ 0 + 255 * instructionsOf m + 255 * (root + 1) =
       subst (λ n. marksOf n ≤ 0 + 255 * instructionsOf n + 255 * (root + 1)) (ap left q) (marks-few (treeOf nodes list names) (y .checked) mode root from) in
-      let full : capacity 1 marks ≤ marksOf m = rw (sym (same-capacity 1 (m .marks) marks (g .marks-length))) (own-marks o e (omega arith)) in
+      let full : capacity 1 marks ≤ marksOf m = rw (sym (same-capacity 1 (m .marks) marks (g .in-marks .same-length))) (own-marks o e (omega arith)) in
       omega (arith, walk-marks nodes root mode list names code constants marks y m (ap left q))
 
   pub marks-full : lower nodes root mode list names code constants marks .result .number ≡ 16 → capacity 1 marks ≤ markCount nodes root mode list names code constants marks

@@ -20,7 +20,7 @@ use Rattle.syntax.specs.declared.ops.Comparison.{Comparison}
 use Rattle.syntax.specs.Ast.{absent}
 use Rattle.runtime.specs.declared.instruction.Instruction.{Instruction}
 use Rattle.runtime.specs.declared.operand.Operand.{Operand}
-use Rattle.runtime.specs.Instruction.{wordsOf, hasDestination}
+use Rattle.runtime.specs.Instruction.{instructionWidth, wordsOf, hasDestination}
 use Rattle.runtime.specs.Function.{emitInstruction, storeConstant, maxInstructions}
 use Rattle.lowering.specs.declared.Dest.{Dest}
 use Rattle.lowering.specs.Tree.{Tree, node, children}
@@ -337,10 +337,10 @@ module _ (t : Tree) (checked : Checked t) where
 
   steady-argument : (b place : ℕ) → Steady b (patchArgument place)
   unfolding patchArgument
-  steady-argument b place = record { at = λ m. go m (hasDestination (getD (m .code) (4 * place) 0)) (leb (getD (m .code) (4 * place + 1) 0 + m .state .registers .«frame_size») 255) }
+  steady-argument b place = record { at = λ m. go m (hasDestination (getD (m .code) (instructionWidth * place) 0)) (leb (getD (m .code) (instructionWidth * place + 1) 0 + m .state .registers .«frame_size») 255) }
     where
       go : (m : Made) (c d : Bool) → PaceOf {A = Unit {0}} 0 0 b m
-          (cond c (cond d (ends (tt {0}) (withCode (set (m .code) (4 * place + 1) (getD (m .code) (4 * place + 1) 0 + m .state .registers .«frame_size»)) (m .state .instructions) m))
+          (cond c (cond d (ends (tt {0}) (withCode (set (m .code) (instructionWidth * place + 1) (getD (m .code) (instructionWidth * place + 1) 0 + m .state .registers .«frame_size»)) (m .state .instructions) m))
           (stops (error Refusal.Sum place 0 0) m)) (stops (error Refusal.Destination place 0 0) m))
       go m true true = omega arith
       go m true false = omega arith

@@ -1,264 +1,200 @@
 -- Nothing beyond: what any run of lowering leaves of the words past its counts, of the constants and marks made before, and how its counts fit the
--- buffers. Assumes nothing.
-use Prim.Native.Nat.{ℕ, _+_, _*_, _-_, _/_, _%_, _≤_, _<_}
+-- buffers. Once, over the width of a buffer's records. Assumes nothing.
+use Prim.Native.Nat.{ℕ, _+_, _*_, _-_, _≤_, _<_}
 use native.Mathlib.Omega.{arith}
-use native.Mathlib.Nat.{le-refl}
+use native.Mathlib.Nat.{le-refl, le-trans, mul-le-mul-left}
 use native.Mathlib.Decide.{ℕ-discrete}
-use mathlib.Core.Path.{_≡_, refl, sym, ap, _∙_, subst}
-use mathlib.Core.Logic.{_≢_}
+use mathlib.Core.Path.{_≡_, refl, _∙_, subst}
 use mathlib.Core.List.{List, [], _∷_}
 use lib.ListN.{length, getD, set, length-set}
 use lib.Seq.{getD-set-other}
 use Rattle.words.specs.Records.{putRecord, capacity}
-use Rattle.words.proofs.Records.{record-same, record-other, record-word, record-length, record-capacity}
-use Rattle.runtime.specs.Instruction.{wordsOf, offsetWord}
-use Rattle.runtime.specs.Value.{constantWords}
+use Rattle.words.proofs.Records.{ends-before, record-length, record-capacity, put-before, put-past, put-same}
+use Rattle.environment.specs.declared.RegisterSet.{RegisterSet}
+use Rattle.runtime.specs.Instruction.{instructionWidth, wordsOf, offsetWord}
+use Rattle.runtime.specs.Value.{constantWidth, constantWords}
 use Rattle.runtime.specs.Function.{maxInstructions}
 use Rattle.lowering.specs.Tree.{Tree}
 use Rattle.lowering.specs.Walk.{Made, Outcome, Walk, left}
-use Rattle.lowering.specs.Steps.{withOffset}
-use Rattle.lowering.specs.Trace.{Runs, Step, takes, gives, leaves, emits, finds, pools, patches, marks, moves, refuses, instructionsOf, constantsOf, marksOf, Marked}
+use Rattle.lowering.specs.Steps.{withRegisters, withCode, withOffset}
+use Rattle.lowering.specs.Trace.{Runs, Step, takes, gives, leaves, emits, finds, pools, patches, marks, moves, refuses, instructionsOf, constantsOf, marksOf, kindAt, firstField, registersOf, Marked}
 use Rattle.runtime.proofs.Encoding.{length-words-of}
 use Rattle.lowering.proofs.Running.Decode.{constant-length, offset-small}
 use Rattle.lowering.proofs.Walk.StepLaws.{along}
 
--- what was made, from m to n
-pub record Grows (m n : Made) : Type 0 where
-  -- counts only grow
-  pub instructions : instructionsOf m ≤ instructionsOf n
-  pub constants : constantsOf m ≤ constantsOf n
-  pub marks : marksOf m ≤ marksOf n
-  -- no buffer changes its length
-  pub code-length : length (n .code) ≡ length (m .code)
-  pub constants-length : length (n .constants) ≡ length (m .constants)
-  pub marks-length : length (n .marks) ≡ length (m .marks)
-  -- every word past the counts is as it was
-  pub code-past : (i : ℕ) → 4 * instructionsOf n ≤ i → getD (n .code) i 0 ≡ getD (m .code) i 0
-  pub constants-past : (i : ℕ) → 3 * constantsOf n ≤ i → getD (n .constants) i 0 ≡ getD (m .constants) i 0
-  pub marks-past : (i : ℕ) → marksOf n ≤ i → getD (n .marks) i 0 ≡ getD (m .marks) i 0
-  -- every word of the constants and marks made before is as it was
-  pub constants-kept : (i : ℕ) → i < 3 * constantsOf m → getD (n .constants) i 0 ≡ getD (m .constants) i 0
-  pub marks-kept : (i : ℕ) → i < marksOf m → getD (n .marks) i 0 ≡ getD (m .marks) i 0
-  -- the counts fit the buffers, if they did
-  pub code-fits : instructionsOf m ≤ capacity 4 (m .code) → instructionsOf n ≤ capacity 4 (n .code)
-  pub code-few : instructionsOf m ≤ maxInstructions → instructionsOf n ≤ maxInstructions
-  pub constants-fit : constantsOf m ≤ capacity 3 (m .constants) → constantsOf n ≤ capacity 3 (n .constants)
-  pub marks-fit : marksOf m ≤ capacity 1 (m .marks) → marksOf n ≤ capacity 1 (n .marks)
-  -- and marks name instructions, if they did
-  pub marked : Marked m → Marked n
+-- ---- a buffer
 
-pub grows-refl : (m : Made) → Grows m m
-grows-refl m = record {
-  instructions = le-refl _;
-  constants = le-refl _;
-  marks = le-refl _;
-  code-length = refl;
-  constants-length = refl;
-  marks-length = refl;
-  code-past = λ i h. refl;
-  constants-past = λ i h. refl;
-  marks-past = λ i h. refl;
-  constants-kept = λ i h. refl;
-  marks-kept = λ i h. refl;
-  code-fits = λ h. h;
-  code-few = λ h. h;
-  constants-fit = λ h. h;
-  marks-fit = λ h. h;
-  marked = λ h. h;
-}
+-- a buffer of records of w words, of which n are made before, and k after
+pub record Grown (w : ℕ) (before after : List ℕ) (n k : ℕ) : Type 0 where
+  -- it does not change its length
+  pub same-length : length after ≡ length before
+  -- every word past the count is as it was
+  pub past : (i : ℕ) → w * k ≤ i → getD after i 0 ≡ getD before i 0
+  -- the count fits the buffer, if it did
+  pub fits : n ≤ capacity w before → k ≤ capacity w after
 
-pub grows-trans : (m n o : Made) → Grows m n → Grows n o → Grows m o
-grows-trans m n o a b =
-    let i1 = a .instructions in
-    let i2 = b .instructions in
-    let c1 = a .constants in
-    let c2 = b .constants in
-    let m1 = a .marks in
-    let m2 = b .marks in
+-- every word of the n records made before is as it was
+abbrev pub Kept : ℕ → List ℕ → List ℕ → ℕ → Type 0
+Kept w before after n = (i : ℕ) → i < w * n → getD after i 0 ≡ getD before i 0
+
+grown-none : (w : ℕ) (ws : List ℕ) (n : ℕ) → Grown w ws ws n n
+grown-none w ws n = record { same-length = refl; past = λ i h. refl; fits = λ h. h }
+
+grown-trans : {w : ℕ} {a b c : List ℕ} {n k j : ℕ} → k ≤ j → Grown w a b n k → Grown w b c k j → Grown w a c n j
+grown-trans {w} more x y =
     record {
-      instructions = omega arith;
-      constants = omega arith;
-      marks = omega arith;
-      code-length = b .code-length ∙ a .code-length;
-      constants-length = b .constants-length ∙ a .constants-length;
-      marks-length = b .marks-length ∙ a .marks-length;
-      code-past = λ i h. b .code-past i h ∙ a .code-past i (omega arith);
-      constants-past = λ i h. b .constants-past i h ∙ a .constants-past i (omega arith);
-      marks-past = λ i h. b .marks-past i h ∙ a .marks-past i (omega arith);
-      constants-kept = λ i h. b .constants-kept i (omega arith) ∙ a .constants-kept i h;
-      marks-kept = λ i h. b .marks-kept i (omega arith) ∙ a .marks-kept i h;
-      code-fits = λ h. b .code-fits (a .code-fits h);
-      code-few = λ h. b .code-few (a .code-few h);
-      constants-fit = λ h. b .constants-fit (a .constants-fit h);
-      marks-fit = λ h. b .marks-fit (a .marks-fit h);
-      marked = λ h. b .marked (a .marked h);
+      same-length = y .same-length ∙ x .same-length;
+      past = λ i h. y .past i h ∙ x .past i (le-trans (mul-le-mul-left w more) h);
+      fits = λ h. y .fits (x .fits h);
     }
 
--- a word outside the record that is put
-put-other : (w : ℕ) (ws : List ℕ) (p : ℕ) (r : List ℕ) (q k : ℕ) → length r ≡ w → q ≢ p → k < w → getD (putRecord w ws p r) (w * q + k) 0 ≡ getD ws (w * q + k) 0
-put-other w ws p r q k e n h = sym (record-word w (putRecord w ws p r) q k h) ∙ ap (λ x. getD x k 0) (record-other w ws p r q e n) ∙ record-word w ws q k h
+kept-trans : (w : ℕ) (a b c : List ℕ) {n k : ℕ} → n ≤ k → Kept w a b n → Kept w b c k → Kept w a c n
+kept-trans w a b c more x y i h = y i (omega (arith, mul-le-mul-left w more)) ∙ x i h
 
-put-other-4 : (ws : List ℕ) (p : ℕ) (r : List ℕ) (i : ℕ) → length r ≡ 4 → 4 * (p + 1) ≤ i → getD (putRecord 4 ws p r) i 0 ≡ getD ws i 0
-put-other-4 ws p r i e h =
-    let whole : 4 * (i / 4) + i % 4 ≡ i = omega arith in
-    subst (λ x. getD (putRecord 4 ws p r) x 0 ≡ getD ws x 0) whole (put-other 4 ws p r (i / 4) (i % 4) e (λ z. omega arith) (omega arith))
-
-put-other-3 : (ws : List ℕ) (p : ℕ) (r : List ℕ) (i : ℕ) → length r ≡ 3 → i / 3 ≢ p → getD (putRecord 3 ws p r) i 0 ≡ getD ws i 0
-put-other-3 ws p r i e h =
-    let whole : 3 * (i / 3) + i % 3 ≡ i = omega arith in
-    subst (λ x. getD (putRecord 3 ws p r) x 0 ≡ getD ws x 0) whole (put-other 3 ws p r (i / 3) (i % 3) e h (omega arith))
-
-put-other-1 : (ws : List ℕ) (p v i : ℕ) → i ≢ p → getD (putRecord 1 ws p (v ∷ [])) i 0 ≡ getD ws i 0
-put-other-1 ws p v i h =
-    let whole : 1 * i + 0 ≡ i = omega arith in
-    subst (λ x. getD (putRecord 1 ws p (v ∷ [])) x 0 ≡ getD ws x 0) whole (put-other 1 ws p (v ∷ []) i 0 refl h (omega arith))
-
-put-same-1 : (ws : List ℕ) (p v : ℕ) → p < capacity 1 ws → getD (putRecord 1 ws p (v ∷ [])) p 0 ≡ v
-put-same-1 ws p v h =
-    let whole : 1 * p + 0 ≡ p = omega arith in
-    subst (λ x. getD (putRecord 1 ws p (v ∷ [])) x 0 ≡ v) whole
-    (sym (record-word 1 (putRecord 1 ws p (v ∷ [])) p 0 (omega arith)) ∙ ap (λ x. getD x 0 0) (record-same 1 ws p (v ∷ []) refl h))
+-- a record put behind the last, where it has place
+grown-put : (w : ℕ) (ws : List ℕ) (p : ℕ) (r : List ℕ) → length r ≡ w → p < capacity w ws → Grown w ws (putRecord w ws p r) p (p + 1)
+grown-put w ws p r e h =
+    record {
+      same-length = record-length w ws p r;
+      past = λ i q. put-past w ws p r e i (omega (arith, ends-before w {q = p} {p = p + 1} (omega arith)));
+      fits = λ x. rw (record-capacity w ws p r w) (omega arith);
+    }
 
 set-capacity : (w : ℕ) (ws : List ℕ) (i v : ℕ) → capacity w (set ws i v) ≡ capacity w ws
 unfolding capacity
 set-capacity w ws i v = rw (length-set ws i v)
 
+-- word k of a record that is made, changed
+grown-set : (w : ℕ) (ws : List ℕ) (p k v n : ℕ) → p < n → k < w → Grown w ws (set ws (w * p + k) v) n n
+grown-set w ws p k v n l h =
+    record {
+      same-length = length-set ws (w * p + k) v;
+      past = λ i q. getD-set-other ws (w * p + k) i v 0 (λ z. omega (arith, ends-before w l));
+      fits = λ x. rw (set-capacity w ws (w * p + k) v) x;
+    }
+
+-- ---- what was made
+
+-- from m to n
+pub record Grows (m n : Made) : Type 0 where
+  -- counts only grow
+  pub instructions : instructionsOf m ≤ instructionsOf n
+  pub constants : constantsOf m ≤ constantsOf n
+  pub marks : marksOf m ≤ marksOf n
+  -- and so do the buffers
+  pub in-code : Grown instructionWidth (m .code) (n .code) (instructionsOf m) (instructionsOf n)
+  pub in-constants : Grown constantWidth (m .constants) (n .constants) (constantsOf m) (constantsOf n)
+  pub in-marks : Grown 1 (m .marks) (n .marks) (marksOf m) (marksOf n)
+  -- the constants and marks made before stay
+  pub constants-kept : Kept constantWidth (m .constants) (n .constants) (constantsOf m)
+  pub marks-kept : Kept 1 (m .marks) (n .marks) (marksOf m)
+  -- there are not too many instructions, if there were not
+  pub code-few : instructionsOf m ≤ maxInstructions → instructionsOf n ≤ maxInstructions
+  -- and marks name instructions, if they did
+  pub marked : Marked m → Marked n
+
+-- a step that changes the code alone
+grows-code : (m : Made) (code : List ℕ) (n : ℕ) → instructionsOf m ≤ n → (instructionsOf m ≤ maxInstructions → n ≤ maxInstructions)
+    → Grown instructionWidth (m .code) code (instructionsOf m) n → Grows m (withCode code n m)
+grows-code m code n more few grown = record {
+  instructions = more;
+  constants = le-refl _;
+  marks = le-refl _;
+  in-code = grown;
+  in-constants = grown-none constantWidth (m .constants) (constantsOf m);
+  in-marks = grown-none 1 (m .marks) (marksOf m);
+  constants-kept = λ i h. refl;
+  marks-kept = λ i h. refl;
+  code-few = few;
+  marked = λ x k q. let z = x k q in omega arith;
+}
+
+-- one that changes the registers alone, or nothing
+grows-registers : (m : Made) (s : RegisterSet) → Grows m (withRegisters s m)
+grows-registers m s = record {
+  instructions = le-refl _;
+  constants = le-refl _;
+  marks = le-refl _;
+  in-code = grown-none instructionWidth (m .code) (instructionsOf m);
+  in-constants = grown-none constantWidth (m .constants) (constantsOf m);
+  in-marks = grown-none 1 (m .marks) (marksOf m);
+  constants-kept = λ i h. refl;
+  marks-kept = λ i h. refl;
+  code-few = λ h. h;
+  marked = λ h. h;
+}
+
+pub grows-refl : (m : Made) → Grows m m
+grows-refl m = grows-registers m (registersOf m)
+
+pub grows-trans : (m n o : Made) → Grows m n → Grows n o → Grows m o
+grows-trans m n o a b = record {
+  instructions = le-trans (a .instructions) (b .instructions);
+  constants = le-trans (a .constants) (b .constants);
+  marks = le-trans (a .marks) (b .marks);
+  in-code = grown-trans (b .instructions) (a .in-code) (b .in-code);
+  in-constants = grown-trans (b .constants) (a .in-constants) (b .in-constants);
+  in-marks = grown-trans (b .marks) (a .in-marks) (b .in-marks);
+  constants-kept = kept-trans constantWidth (m .constants) (n .constants) (o .constants) (a .constants) (a .constants-kept) (b .constants-kept);
+  marks-kept = kept-trans 1 (m .marks) (n .marks) (o .marks) (a .marks) (a .marks-kept) (b .marks-kept);
+  code-few = λ h. b .code-few (a .code-few h);
+  marked = λ h. b .marked (a .marked h);
+}
+
+-- ---- each step
+
+-- the mark that is put
+mark-same : (ws : List ℕ) (p v : ℕ) → p < capacity 1 ws → getD (putRecord 1 ws p (v ∷ [])) p 0 ≡ v
+mark-same ws p v h =
+    let place : 1 * p + 0 ≡ p = omega arith in
+    subst (λ i. getD (putRecord 1 ws p (v ∷ [])) i 0 ≡ v) place (put-same 1 ws p (v ∷ []) refl 0 (omega arith) h)
+
 module _ {t : Tree} {root : ℕ} where
   pub grows-each : {A : Type 0} {w : Walk A} {m : Made} {o : Outcome A} → Step t root A w m o → Grows m (left o)
   unfolding left withOffset
-  grows-each (takes k) = record {
-    instructions = le-refl _;
-    constants = le-refl _;
-    marks = le-refl _;
-    code-length = refl;
-    constants-length = refl;
-    marks-length = refl;
-    code-past = λ i h. refl;
-    constants-past = λ i h. refl;
-    marks-past = λ i h. refl;
-    constants-kept = λ i h. refl;
-    marks-kept = λ i h. refl;
-    code-fits = λ h. h;
-    code-few = λ h. h;
-    constants-fit = λ h. h;
-    marks-fit = λ h. h;
-    marked = λ h. h;
-  }
-  grows-each (gives r k) = record {
-    instructions = le-refl _;
-    constants = le-refl _;
-    marks = le-refl _;
-    code-length = refl;
-    constants-length = refl;
-    marks-length = refl;
-    code-past = λ i h. refl;
-    constants-past = λ i h. refl;
-    marks-past = λ i h. refl;
-    constants-kept = λ i h. refl;
-    marks-kept = λ i h. refl;
-    code-fits = λ h. h;
-    code-few = λ h. h;
-    constants-fit = λ h. h;
-    marks-fit = λ h. h;
-    marked = λ h. h;
-  }
+  grows-each {m = m} (takes {s = s} k) = grows-registers m s
+  grows-each {m = m} (gives r k) = grows-registers m _
   grows-each {m = m} (leaves r) = grows-refl m
-  grows-each {m = m} (emits i fits l h) = record {
-    instructions = omega arith;
-    constants = le-refl _;
-    marks = le-refl _;
-    code-length = record-length 4 (m .code) (instructionsOf m) (wordsOf i);
-    constants-length = refl;
-    marks-length = refl;
-    code-past = λ j q. put-other-4 (m .code) (instructionsOf m) (wordsOf i) j (length-words-of i) q;
-    constants-past = λ i h. refl;
-    marks-past = λ i h. refl;
-    constants-kept = λ i h. refl;
-    marks-kept = λ i h. refl;
-    code-fits = λ x. rw (record-capacity 4 (m .code) (instructionsOf m) (wordsOf i) 4) (omega arith);
-    code-few = λ x. omega arith;
-    constants-fit = λ h. h;
-    marks-fit = λ h. h;
-    marked = λ x k q. let z = x k q in omega arith;
-  }
+  grows-each {m = m} (emits i fits l h) =
+      grows-code m _ (instructionsOf m + 1) (omega arith) (λ x. omega arith) (grown-put instructionWidth (m .code) (instructionsOf m) (wordsOf i) (length-words-of i) h)
   grows-each {m = m} (finds c l e f) = grows-refl m
   grows-each {m = m} (pools {c = c} owned f h) = record {
     instructions = le-refl _;
     constants = omega arith;
     marks = le-refl _;
-    code-length = refl;
-    constants-length = record-length 3 (m .constants) (constantsOf m) (constantWords c);
-    marks-length = refl;
-    code-past = λ i h. refl;
-    constants-past = λ j q. put-other-3 (m .constants) (constantsOf m) (constantWords c) j (constant-length c) (λ z. omega arith);
-    marks-past = λ i h. refl;
-    constants-kept = λ j q. put-other-3 (m .constants) (constantsOf m) (constantWords c) j (constant-length c) (λ z. omega arith);
+    in-code = grown-none instructionWidth (m .code) (instructionsOf m);
+    in-constants = grown-put constantWidth (m .constants) (constantsOf m) (constantWords c) (constant-length c) h;
+    in-marks = grown-none 1 (m .marks) (marksOf m);
+    constants-kept = put-before constantWidth (m .constants) (constantsOf m) (constantWords c);
     marks-kept = λ i h. refl;
-    code-fits = λ h. h;
     code-few = λ h. h;
-    constants-fit = λ x. rw (record-capacity 3 (m .constants) (constantsOf m) (constantWords c) 3) (omega arith);
-    marks-fit = λ h. h;
     marked = λ h. h;
   }
-  grows-each {m = m} (patches j l k) = record {
-    instructions = le-refl _;
-    constants = le-refl _;
-    marks = le-refl _;
-    code-length = length-set (m .code) (4 * j + offsetWord (getD (m .code) (4 * j) 0)) (instructionsOf m - j);
-    constants-length = refl;
-    marks-length = refl;
-    code-past = λ x q. getD-set-other (m .code) (4 * j + offsetWord (getD (m .code) (4 * j) 0)) x (instructionsOf m - j) 0 (λ z. let b = offset-small (getD (m .code) (4 * j) 0) in omega arith);
-    constants-past = λ i h. refl;
-    marks-past = λ i h. refl;
-    constants-kept = λ i h. refl;
-    marks-kept = λ i h. refl;
-    code-fits = λ x. rw (set-capacity 4 (m .code) (4 * j + offsetWord (getD (m .code) (4 * j) 0)) (instructionsOf m - j)) x;
-    code-few = λ h. h;
-    constants-fit = λ h. h;
-    marks-fit = λ h. h;
-    marked = λ h. h;
-  }
+  grows-each {m = m} (patches j l k) =
+      grows-code m _ (instructionsOf m) (le-refl _) (λ x. x)
+      (grown-set instructionWidth (m .code) j (offsetWord (kindAt m j)) (instructionsOf m - j) (instructionsOf m) l (offset-small (kindAt m j)))
   grows-each {m = m} (marks i start end z h) = record {
     instructions = le-refl _;
     constants = le-refl _;
     marks = omega arith;
-    code-length = refl;
-    constants-length = refl;
-    marks-length = record-length 1 (m .marks) (marksOf m) ((instructionsOf m - 1) ∷ []);
-    code-past = λ i h. refl;
-    constants-past = λ i h. refl;
-    marks-past = λ j q. put-other-1 (m .marks) (marksOf m) (instructionsOf m - 1) j (λ z. omega arith);
+    in-code = grown-none instructionWidth (m .code) (instructionsOf m);
+    in-constants = grown-none constantWidth (m .constants) (constantsOf m);
+    in-marks = grown-put 1 (m .marks) (marksOf m) mark refl h;
     constants-kept = λ i h. refl;
-    marks-kept = λ j q. put-other-1 (m .marks) (marksOf m) (instructionsOf m - 1) j (λ z. omega arith);
-    code-fits = λ h. h;
+    marks-kept = put-before 1 (m .marks) (marksOf m) mark;
     code-few = λ h. h;
-    constants-fit = λ h. h;
-    marks-fit = λ x. rw (record-capacity 1 (m .marks) (marksOf m) ((instructionsOf m - 1) ∷ []) 1) (omega arith);
     marked = λ x k q. marked-more x k q (ℕ-discrete k (marksOf m));
   }
     where
-      marked-more : Marked m → (k : ℕ) → k < marksOf m + 1 → Dec (k ≡ marksOf m) →
-          getD (putRecord 1 (m .marks) (marksOf m) ((instructionsOf m - 1) ∷ [])) k 0 < instructionsOf m
-      marked-more x k q (yes e) = rw e (rw (put-same-1 (m .marks) (marksOf m) (instructionsOf m - 1) h) (omega arith))
-      marked-more x k q (no e) = rw (put-other-1 (m .marks) (marksOf m) (instructionsOf m - 1) k e) (x k (omega arith))
-  grows-each {m = m} (moves place l k b) = record {
-    instructions = le-refl _;
-    constants = le-refl _;
-    marks = le-refl _;
-    code-length = length-set (m .code) (4 * place + 1) (getD (m .code) (4 * place + 1) 0 + m .state .registers .«frame_size»);
-    constants-length = refl;
-    marks-length = refl;
-    code-past = λ x q. getD-set-other (m .code) (4 * place + 1) x (getD (m .code) (4 * place + 1) 0 + m .state .registers .«frame_size») 0 (λ z. omega arith);
-    constants-past = λ i h. refl;
-    marks-past = λ i h. refl;
-    constants-kept = λ i h. refl;
-    marks-kept = λ i h. refl;
-    code-fits = λ x. rw (set-capacity 4 (m .code) (4 * place + 1) (getD (m .code) (4 * place + 1) 0 + m .state .registers .«frame_size»)) x;
-    code-few = λ h. h;
-    constants-fit = λ h. h;
-    marks-fit = λ h. h;
-    marked = λ h. h;
-  }
+      mark : List ℕ
+      mark = (instructionsOf m - 1) ∷ []
+
+      marked-more : Marked m → (k : ℕ) → k < marksOf m + 1 → Dec (k ≡ marksOf m) → getD (putRecord 1 (m .marks) (marksOf m) mark) k 0 < instructionsOf m
+      marked-more x k q (yes e) = rw e (rw (mark-same (m .marks) (marksOf m) (instructionsOf m - 1) h) (omega arith))
+      marked-more x k q (no e) = rw (put-before 1 (m .marks) (marksOf m) mark k (omega arith)) (x k (omega arith))
+  grows-each {m = m} (moves place l k b) =
+      grows-code m _ (instructionsOf m) (le-refl _) (λ x. x)
+      (grown-set instructionWidth (m .code) place 1 (firstField m place + registersOf m .«frame_size») (instructionsOf m) l (omega arith))
   grows-each {m = m} (refuses q o) = grows-refl m
 
   -- of any run

@@ -3,18 +3,18 @@ use Prim.Native.Nat.{ℕ, zero, suc, _+_, _*_, _-_, _≤_, _<_}
 use native.Mathlib.Omega.{arith}
 use native.Mathlib.Nat.{lt-of-lt-of-le, le-refl, add-zero}
 use native.Mathlib.Decide.{ℕ-discrete}
-use mathlib.Core.Path.{_≡_, refl, sym, ap, _∙_, subst}
+use mathlib.Core.Path.{_≡_, refl, sym, _∙_, subst}
 use mathlib.Core.Logic.{_≢_}
 use mathlib.Core.Bool.{Bool, true, false, cond, false≢true}
 use mathlib.Core.List.{List, [], _∷_}
 use lib.Dec.{ltb}
-use lib.ListN.{length, getD, set}
-use lib.Seq.{getD-set-same, getD-set-other}
+use lib.ListN.{length, getD, set, length-set}
+use lib.Seq.{ext-getD, getD-set-same, getD-set-other}
 use borrow.Author.Tests.{ltb-true}
 use Rattle.words.specs.Records.{putRecord, capacity}
-use Rattle.words.proofs.Records.{room, record-same, record-other, record-word}
+use Rattle.words.proofs.Records.{room, put-same, put-other}
 use Rattle.runtime.specs.declared.instruction.Instruction.{Instruction}
-use Rattle.runtime.specs.Instruction.{wordsOf, hasDestination, offsetWord}
+use Rattle.runtime.specs.Instruction.{instructionWidth, wordsOf, hasDestination, offsetWord}
 use Rattle.runtime.specs.Function.{maxInstructions}
 use Rattle.lowering.specs.Tree.{Tree}
 use Rattle.lowering.specs.Walk.{Made, Outcome, Walk, left}
@@ -24,13 +24,12 @@ use Rattle.lowering.specs.Trace.{Runs, Step, takes, gives, leaves, emits
 use Rattle.lowering.specs.Pool.{AllNarrow}
 use Rattle.runtime.proofs.Encoding.{length-words-of}
 use Rattle.lowering.proofs.Running.Decode.{offset-small}
-use Rattle.lowering.proofs.Walk.StepsRun.{offset-past}
 use Rattle.lowering.proofs.Walk.StepLaws.{along}
 use Rattle.lowering.proofs.Walk.NothingBeyond.{Grows, grows-refl, grows-trans, grows-each}
 
 -- the code is inside its buffer and below its limit
 abbrev pub Room : Made → Type 0
-Room m = (instructionsOf m ≤ capacity 4 (m .code)) × (instructionsOf m ≤ maxInstructions)
+Room m = (instructionsOf m ≤ capacity instructionWidth (m .code)) × (instructionsOf m ≤ maxInstructions)
 
 -- ---- more constants leave what fits
 
@@ -103,65 +102,45 @@ destination-first kind h = starts-at fields 41 all-start kind (small (ltb kind 2
 
 -- ---- the words of an instruction, after a store
 
-module _ (ws : List ℕ) (p v : ℕ) (fits : 4 * p + 4 ≤ length ws) where
-  words-set-1 : wordsAt (set ws (4 * p + 1) v) p ≡ set (wordsAt ws p) 1 v
-  words-set-1 =
-      let e0 = getD-set-other ws (4 * p + 1) (4 * p) v 0 (λ e. omega arith) in
-      let e1 = getD-set-same ws (4 * p + 1) v 0 (omega arith) in
-      let e2 = getD-set-other ws (4 * p + 1) (4 * p + 2) v 0 (λ e. omega arith) in
-      let e3 = getD-set-other ws (4 * p + 1) (4 * p + 3) v 0 (λ e. omega arith) in
-      rw (e0, e1, e2, e3)
+-- word k of the instruction at p
+word-at : (ws : List ℕ) (p k : ℕ) → k < instructionWidth → getD (wordsAt ws p) k 0 ≡ getD ws (instructionWidth * p + k) 0
+word-at ws p zero h = rw (add-zero (instructionWidth * p))
+word-at ws p (suc zero) h = refl
+word-at ws p (suc (suc zero)) h = refl
+word-at ws p (suc (suc (suc zero))) h = refl
+word-at ws p (suc (suc (suc (suc k)))) h = absurd (omega arith)
 
-  words-set-2 : wordsAt (set ws (4 * p + 2) v) p ≡ set (wordsAt ws p) 2 v
-  words-set-2 =
-      let e0 = getD-set-other ws (4 * p + 2) (4 * p) v 0 (λ e. omega arith) in
-      let e1 = getD-set-other ws (4 * p + 2) (4 * p + 1) v 0 (λ e. omega arith) in
-      let e2 = getD-set-same ws (4 * p + 2) v 0 (omega arith) in
-      let e3 = getD-set-other ws (4 * p + 2) (4 * p + 3) v 0 (λ e. omega arith) in
-      rw (e0, e1, e2, e3)
+words-are : (ws : List ℕ) (p : ℕ) (l : List ℕ) → length l ≡ instructionWidth → ((k : ℕ) → k < instructionWidth → getD ws (instructionWidth * p + k) 0 ≡ getD l k 0) → wordsAt ws p ≡ l
+words-are ws p l e f = ext-getD 0 (wordsAt ws p) l (sym e) (λ k h. word-at ws p k h ∙ f k h)
 
-  words-set-3 : wordsAt (set ws (4 * p + 3) v) p ≡ set (wordsAt ws p) 3 v
-  words-set-3 =
-      let e0 = getD-set-other ws (4 * p + 3) (4 * p) v 0 (λ e. omega arith) in
-      let e1 = getD-set-other ws (4 * p + 3) (4 * p + 1) v 0 (λ e. omega arith) in
-      let e2 = getD-set-other ws (4 * p + 3) (4 * p + 2) v 0 (λ e. omega arith) in
-      let e3 = getD-set-same ws (4 * p + 3) v 0 (omega arith) in
-      rw (e0, e1, e2, e3)
+-- a word that is changed, in its own instruction and in any other
+words-set : (ws : List ℕ) (p v : ℕ) → instructionWidth * p + instructionWidth ≤ length ws → (o : ℕ) → o < instructionWidth
+    → wordsAt (set ws (instructionWidth * p + o) v) p ≡ set (wordsAt ws p) o v
+words-set ws p v fits o l =
+    words-are (set ws (instructionWidth * p + o) v) p (set (wordsAt ws p) o v) (length-set (wordsAt ws p) o v) (λ k h. go k h (ℕ-discrete k o))
+  where
+    go : (k : ℕ) → k < instructionWidth → Dec (k ≡ o) → getD (set ws (instructionWidth * p + o) v) (instructionWidth * p + k) 0 ≡ getD (set (wordsAt ws p) o v) k 0
+    go k h (yes e) = rw e (getD-set-same ws (instructionWidth * p + o) v 0 (omega arith) ∙ sym (getD-set-same (wordsAt ws p) o v 0 l))
+    go k h (no n) =
+        getD-set-other ws (instructionWidth * p + o) (instructionWidth * p + k) v 0 (λ e. n (omega arith))
+        ∙ sym (word-at ws p k h)
+        ∙ sym (getD-set-other (wordsAt ws p) o k v 0 n)
 
-  words-set : (o : ℕ) → 1 ≤ o → o < 4 → wordsAt (set ws (4 * p + o) v) p ≡ set (wordsAt ws p) o v
-  words-set zero a b = absurd (omega arith)
-  words-set (suc zero) a b = words-set-1
-  words-set (suc (suc zero)) a b = words-set-2
-  words-set (suc (suc (suc zero))) a b = words-set-3
-  words-set (suc (suc (suc (suc o)))) a b = absurd (omega arith)
-
-words-other : (ws : List ℕ) (p q o v : ℕ) → o < 4 → q ≢ p → wordsAt (set ws (4 * p + o) v) q ≡ wordsAt ws q
+words-other : (ws : List ℕ) (p q o v : ℕ) → o < instructionWidth → q ≢ p → wordsAt (set ws (instructionWidth * p + o) v) q ≡ wordsAt ws q
 words-other ws p q o v h n =
-    let e0 = getD-set-other ws (4 * p + o) (4 * q) v 0 (λ e. n (omega arith)) in
-    let e1 = getD-set-other ws (4 * p + o) (4 * q + 1) v 0 (λ e. n (omega arith)) in
-    let e2 = getD-set-other ws (4 * p + o) (4 * q + 2) v 0 (λ e. n (omega arith)) in
-    let e3 = getD-set-other ws (4 * p + o) (4 * q + 3) v 0 (λ e. n (omega arith)) in
-    rw (e0, e1, e2, e3)
+    words-are (set ws (instructionWidth * p + o) v) q (wordsAt ws q) refl
+    (λ k l. getD-set-other ws (instructionWidth * p + o) (instructionWidth * q + k) v 0 (λ e. n (omega arith)) ∙ sym (word-at ws q k l))
 
 -- an instruction that is put, and the others
-words-put : (ws : List ℕ) (p : ℕ) (i : Instruction) → p < capacity 4 ws → (k : ℕ) → k < 4 → getD (putRecord 4 ws p (wordsOf i)) (4 * p + k) 0 ≡ getD (wordsOf i) k 0
-words-put ws p i h k l = sym (record-word 4 (putRecord 4 ws p (wordsOf i)) p k l) ∙ ap (λ x. getD x k 0) (record-same 4 ws p (wordsOf i) (length-words-of i) h)
+module _ (ws : List ℕ) (p : ℕ) (i : Instruction) where
+  abbrev put : List ℕ
+  put = putRecord instructionWidth ws p (wordsOf i)
 
-put-narrow : (top : ℕ) (ws : List ℕ) (p : ℕ) (i : Instruction) → p < capacity 4 ws → Narrow top (wordsOf i) → Narrow top (wordsAt (putRecord 4 ws p (wordsOf i)) p)
-put-narrow top ws p i h n =
-    let e0 : getD (putRecord 4 ws p (wordsOf i)) (4 * p) 0 ≡ getD (wordsOf i) 0 0 =
-    ap (λ k. getD (putRecord 4 ws p (wordsOf i)) k 0) (sym (add-zero (4 * p))) ∙ words-put ws p i h 0 (omega arith) in
-    rw (e0, words-put ws p i h 1 (omega arith), words-put ws p i h 2 (omega arith), words-put ws p i h 3 (omega arith)) n
+  words-put : p < capacity instructionWidth ws → wordsAt put p ≡ wordsOf i
+  words-put h = words-are put p (wordsOf i) (length-words-of i) (λ k l. put-same instructionWidth ws p (wordsOf i) (length-words-of i) k l h)
 
-put-other : (ws : List ℕ) (p q : ℕ) (i : Instruction) → q ≢ p → (k : ℕ) → k < 4 → getD (putRecord 4 ws p (wordsOf i)) (4 * q + k) 0 ≡ getD ws (4 * q + k) 0
-put-other ws p q i n k l =
-    sym (record-word 4 (putRecord 4 ws p (wordsOf i)) q k l) ∙ ap (λ x. getD x k 0) (record-other 4 ws p (wordsOf i) q (length-words-of i) n) ∙ record-word 4 ws q k l
-
-words-put-other : (ws : List ℕ) (p q : ℕ) (i : Instruction) → q ≢ p → wordsAt (putRecord 4 ws p (wordsOf i)) q ≡ wordsAt ws q
-words-put-other ws p q i n =
-    let e0 : getD (putRecord 4 ws p (wordsOf i)) (4 * q) 0 ≡ getD ws (4 * q) 0 =
-    ap (λ k. getD (putRecord 4 ws p (wordsOf i)) k 0) (sym (add-zero (4 * q))) ∙ put-other ws p q i n 0 (omega arith) ∙ ap (λ k. getD ws k 0) (add-zero (4 * q)) in
-    rw (e0, put-other ws p q i n 1 (omega arith), put-other ws p q i n 2 (omega arith), put-other ws p q i n 3 (omega arith))
+  words-put-other : (q : ℕ) → q ≢ p → wordsAt put q ≡ wordsAt ws q
+  words-put-other q n = words-are put q (wordsAt ws q) refl (λ k l. put-other instructionWidth ws p (wordsOf i) (length-words-of i) k l q n ∙ sym (word-at ws q k l))
 
 -- ---- a run
 
@@ -175,7 +154,7 @@ uncut-refl m = record { grows = grows-refl m; narrow = λ r a. a }
 uncut-trans : (m n o : Made) → Uncut m n → Uncut n o → Uncut m o
 uncut-trans m n o a b = record {
   grows = grows-trans m n o (a .grows) (b .grows);
-  narrow = λ r x. b .narrow (a .grows .code-fits (r .0), a .grows .code-few (r .1)) (a .narrow r x);
+  narrow = λ r x. b .narrow (a .grows .in-code .fits (r .0), a .grows .code-few (r .1)) (a .narrow r x);
 }
 
 module _ {t : Tree} {root : ℕ} where
@@ -187,40 +166,40 @@ module _ {t : Tree} {root : ℕ} where
   narrow-each {m = m} (emits i f l h) r a = λ p z. go p z (ℕ-discrete p (instructionsOf m))
     where
       go : (p : ℕ) → p < instructionsOf m + 1 → Dec (p ≡ instructionsOf m) →
-          Narrow (constantsOf m) (wordsAt (putRecord 4 (m .code) (instructionsOf m) (wordsOf i)) p)
-      go p z (yes e) = rw e (put-narrow (constantsOf m) (m .code) (instructionsOf m) i h f)
-      go p z (no e) = subst (λ ws. Narrow (constantsOf m) ws) (sym (words-put-other (m .code) (instructionsOf m) p i e)) (a p (omega arith))
+          Narrow (constantsOf m) (wordsAt (putRecord instructionWidth (m .code) (instructionsOf m) (wordsOf i)) p)
+      go p z (yes e) = rw e (subst (λ ws. Narrow (constantsOf m) ws) (sym (words-put (m .code) (instructionsOf m) i h)) f)
+      go p z (no e) = subst (λ ws. Narrow (constantsOf m) ws) (sym (words-put-other (m .code) (instructionsOf m) i p e)) (a p (omega arith))
   narrow-each (finds c l e f) r a = a
   narrow-each {m = m} (pools o f h) r a = λ p z. narrow-more (wordsAt (m .code) p) (omega arith) (a p z)
   narrow-each {m = m} (patches j l k) r a = λ p z. go p z (ℕ-discrete p j)
     where
       kind : ℕ
-      kind = getD (m .code) (4 * j) 0
+      kind = getD (m .code) (instructionWidth * j) 0
 
-      inside : 4 * j + 4 ≤ length (m .code)
-      inside = room 4 (m .code) j (omega (arith, r .0))
+      inside : instructionWidth * j + instructionWidth ≤ length (m .code)
+      inside = room instructionWidth (m .code) j (omega (arith, r .0))
 
-      go : (p : ℕ) → p < instructionsOf m → Dec (p ≡ j) → Narrow (constantsOf m) (wordsAt (set (m .code) (4 * j + offsetWord kind) (instructionsOf m - j)) p)
+      go : (p : ℕ) → p < instructionsOf m → Dec (p ≡ j) → Narrow (constantsOf m) (wordsAt (set (m .code) (instructionWidth * j + offsetWord kind) (instructionsOf m - j)) p)
       go p z (yes e) =
-          rw e (subst (λ ws. Narrow (constantsOf m) ws) (sym (words-set (m .code) j (instructionsOf m - j) inside (offsetWord kind) (offset-past kind k) (offset-small kind)))
-          (patch-narrow (constantsOf m) (getD (m .code) (4 * j + 1) 0) (getD (m .code) (4 * j + 2) 0) (getD (m .code) (4 * j + 3) 0) (instructionsOf m - j)
+          rw e (subst (λ ws. Narrow (constantsOf m) ws) (sym (words-set (m .code) j (instructionsOf m - j) inside (offsetWord kind) (offset-small kind)))
+          (patch-narrow (constantsOf m) (getD (m .code) (instructionWidth * j + 1) 0) (getD (m .code) (instructionWidth * j + 2) 0) (getD (m .code) (instructionWidth * j + 3) 0) (instructionsOf m - j)
           (omega (arith, r .1)) kind k (a j l)))
       go p z (no e) = subst (λ ws. Narrow (constantsOf m) ws) (sym (words-other (m .code) j p (offsetWord kind) (instructionsOf m - j) (offset-small kind) e)) (a p z)
   narrow-each (marks i start end z h) r a = a
   narrow-each {m = m} (moves place l k b) r a = λ p z. go p z (ℕ-discrete p place)
     where
       sum : ℕ
-      sum = getD (m .code) (4 * place + 1) 0 + registersOf m .«frame_size»
+      sum = getD (m .code) (instructionWidth * place + 1) 0 + registersOf m .«frame_size»
 
-      inside : 4 * place + 4 ≤ length (m .code)
-      inside = room 4 (m .code) place (omega (arith, r .0))
+      inside : instructionWidth * place + instructionWidth ≤ length (m .code)
+      inside = room instructionWidth (m .code) place (omega (arith, r .0))
 
-      first : sum < limit (constantsOf m) (fieldOf (getD (m .code) (4 * place) 0) 0)
-      first = rw (destination-first (getD (m .code) (4 * place) 0) k) (omega arith)
+      first : sum < limit (constantsOf m) (fieldOf (getD (m .code) (instructionWidth * place) 0) 0)
+      first = rw (destination-first (getD (m .code) (instructionWidth * place) 0) k) (omega arith)
 
-      go : (p : ℕ) → p < instructionsOf m → Dec (p ≡ place) → Narrow (constantsOf m) (wordsAt (set (m .code) (4 * place + 1) sum) p)
+      go : (p : ℕ) → p < instructionsOf m → Dec (p ≡ place) → Narrow (constantsOf m) (wordsAt (set (m .code) (instructionWidth * place + 1) sum) p)
       go p z (yes e) =
-          rw e (subst (λ ws. Narrow (constantsOf m) ws) (sym (words-set-1 (m .code) place sum inside)) (let n = a place l in (first, n .1, n .2)))
+          rw e (subst (λ ws. Narrow (constantsOf m) ws) (sym (words-set (m .code) place sum inside 1 (omega arith))) (let n = a place l in (first, n .1, n .2)))
       go p z (no e) = subst (λ ws. Narrow (constantsOf m) ws) (sym (words-other (m .code) place p 1 sum (omega arith) e)) (a p z)
   narrow-each (refuses q o) r a = a
 

@@ -17,7 +17,7 @@ use Rattle.diagnostics.specs.declared.Place.{Place}
 use Rattle.words.specs.Records.{Buffer, recordAt, putRecord, capacity}
 use Rattle.words.proofs.Records.{record-same, record-other}
 use Rattle.runtime.specs.declared.operand.Operand.{Operand}
-use Rattle.runtime.specs.Value.{constantWords}
+use Rattle.runtime.specs.Value.{constantWidth, constantWords}
 use Rattle.runtime.specs.Function.{storeConstant}
 use Rattle.runtime.proofs.Pool.{store-at}
 use Rattle.lowering.specs.Tree.{Tree, node}
@@ -35,7 +35,7 @@ Distinct m = (q p : ℕ) → q < p → p < constantsOf m → constantAt m q ≢ 
 
 -- A constant's index is the first place with its words.
 pub constant-first : (c : Operand) (m n : Made) (p : ℕ) → store c m ≡ ends p n →
-    (p < constantsOf n) × (constantAt n p ≡ constantWords c) × ((q : ℕ) → q < p → q < capacity 3 (n .constants) → constantAt n q ≢ constantWords c)
+    (p < constantsOf n) × (constantAt n p ≡ constantWords c) × ((q : ℕ) → q < p → q < capacity constantWidth (n .constants) → constantAt n q ≢ constantWords c)
 unfolding store placed
 constant-first c m n p e = go (after .answer .place) refl e
   where
@@ -43,13 +43,13 @@ constant-first c m n p e = go (after .answer .place) refl e
     after = storeConstant (m .constants) (constantsOf m) c
 
     go : (place : Place) → after .answer .place ≡ place → placed place (withConstants (after .words) (after .answer .count) m) ≡ ends p n →
-        (p < constantsOf n) × (constantAt n p ≡ constantWords c) × ((q : ℕ) → q < p → q < capacity 3 (n .constants) → constantAt n q ≢ constantWords c)
+        (p < constantsOf n) × (constantAt n p ≡ constantWords c) × ((q : ℕ) → q < p → q < capacity constantWidth (n .constants) → constantAt n q ≢ constantWords c)
     go (Place.At k) q z =
         let same : k ≡ p = cc in
         let there : withConstants (after .words) (after .answer .count) m ≡ n = cc in
         let s = store-at (m .constants) (constantsOf m) c k q in
-        subst (λ x. (p < constantsOf x) × (constantAt x p ≡ constantWords c) × ((q : ℕ) → q < p → q < capacity 3 (x .constants) → constantAt x q ≢ constantWords c)) there
-        (subst (λ j. (j < after .answer .count) × (recordAt 3 (after .words) j ≡ constantWords c) × ((q : ℕ) → q < j → q < capacity 3 (after .words) → recordAt 3 (after .words) q ≢ constantWords c)) same
+        subst (λ x. (p < constantsOf x) × (constantAt x p ≡ constantWords c) × ((q : ℕ) → q < p → q < capacity constantWidth (x .constants) → constantAt x q ≢ constantWords c)) there
+        (subst (λ j. (j < after .answer .count) × (recordAt constantWidth (after .words) j ≡ constantWords c) × ((q : ℕ) → q < j → q < capacity constantWidth (after .words) → recordAt constantWidth (after .words) q ≢ constantWords c)) same
         (s .counted, s .holds, s .first))
     go (Place.Refused r) q z = let w : _≡_ {A = ℕ} 0 1 = cc in absurd (omega arith)
 
@@ -98,7 +98,7 @@ module _ (t : Tree) (root : ℕ) where
   same-pool : (m : Made) {n : Made} → (n .constants ≡ m .constants) → (constantsOf n ≡ constantsOf m) → Pooled m n
   same-pool m {n} e f = record {
     more = omega arith;
-    kept = λ p h. ap (λ ws. recordAt 3 ws p) e;
+    kept = λ p h. ap (λ ws. recordAt constantWidth ws p) e;
     owned = λ p a b. absurd (omega arith);
     new = λ q p l a b. absurd (omega arith);
   }
@@ -107,17 +107,17 @@ module _ (t : Tree) (root : ℕ) where
   unfolding left
   pooled-each {m = m} (pools {c = c} own f h) = record {
     more = omega arith;
-    kept = λ p l. record-other 3 (m .constants) (constantsOf m) (constantWords c) p (constant-length c) (ne-of-lt l);
+    kept = λ p l. record-other constantWidth (m .constants) (constantsOf m) (constantWords c) p (constant-length c) (ne-of-lt l);
     owned = λ p a b.
         let e : p ≡ constantsOf m = omega arith in
         rw e (record { owner = own .owner; reached = own .reached; constant = _; its = own .its; words = there });
     new = λ q p l a b.
         let e : p ≡ constantsOf m = omega arith in
-        rw e (λ z. f q (omega arith) (omega arith) (sym (record-other 3 (m .constants) (constantsOf m) (constantWords c) q (constant-length c) (ne-of-lt (omega arith))) ∙ z ∙ there));
+        rw e (λ z. f q (omega arith) (omega arith) (sym (record-other constantWidth (m .constants) (constantsOf m) (constantWords c) q (constant-length c) (ne-of-lt (omega arith))) ∙ z ∙ there));
   }
     where
-      there : recordAt 3 (putRecord 3 (m .constants) (constantsOf m) (constantWords c)) (constantsOf m) ≡ constantWords c
-      there = record-same 3 (m .constants) (constantsOf m) (constantWords c) (constant-length c) h
+      there : recordAt constantWidth (putRecord constantWidth (m .constants) (constantsOf m) (constantWords c)) (constantsOf m) ≡ constantWords c
+      there = record-same constantWidth (m .constants) (constantsOf m) (constantWords c) (constant-length c) h
   pooled-each {m = m} (takes k) = same-pool m refl refl
   pooled-each {m = m} (gives r h) = same-pool m refl refl
   pooled-each {m = m} (leaves r) = same-pool m refl refl

@@ -8,6 +8,7 @@ use mathlib.Core.Bool.{Bool}
 use mathlib.Core.List.{List}
 use lib.ListN.{length}
 use Rattle.words.specs.Records.{recordAt}
+use Rattle.runtime.specs.Value.{constantWidth}
 use Rattle.environment.specs.Laws.{Sound}
 use Rattle.environment.proofs.Laws.{parameters-sound}
 use Rattle.lowering.specs.Tree.{Tree, treeOf}
@@ -48,13 +49,13 @@ module _ (t : Tree) (root mode : ℕ) (checked : Checked t) (few : length (t .na
   pool = runs-pool t root run
 
   -- Nothing pooled ever changes.
-  pub pooled-stays : (p : ℕ) → p < pooled → recordAt 3 (after t root mode code constants marks pooled .constants) p ≡ recordAt 3 constants p
+  pub pooled-stays : (p : ℕ) → p < pooled → recordAt constantWidth (after t root mode code constants marks pooled .constants) p ≡ recordAt constantWidth constants p
   unfolding begin
   pooled-stays p h = pool .kept p h
 
   -- No two constants are the same if none were before.
-  pub pooled-distinct : ((q p : ℕ) → q < p → p < pooled → recordAt 3 constants q ≢ recordAt 3 constants p) →
-      (q p : ℕ) → q < p → p < constantsOf (after t root mode code constants marks pooled) → recordAt 3 (after t root mode code constants marks pooled .constants) q ≢ recordAt 3 (after t root mode code constants marks pooled .constants) p
+  pub pooled-distinct : ((q p : ℕ) → q < p → p < pooled → recordAt constantWidth constants q ≢ recordAt constantWidth constants p) →
+      (q p : ℕ) → q < p → p < constantsOf (after t root mode code constants marks pooled) → recordAt constantWidth (after t root mode code constants marks pooled .constants) q ≢ recordAt constantWidth (after t root mode code constants marks pooled .constants) p
   unfolding begin
   pooled-distinct d = distinct-kept t root pool d
 

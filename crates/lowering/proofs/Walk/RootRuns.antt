@@ -10,7 +10,7 @@ use Rattle.diagnostics.specs.declared.Refusal.{Refusal}
 use Rattle.environment.specs.Laws.{Sound}
 use Rattle.runtime.specs.declared.instruction.Instruction.{Instruction}
 use Rattle.runtime.specs.Operands.{regOf}
-use Rattle.runtime.specs.Instruction.{wordsOf, hasDestination}
+use Rattle.runtime.specs.Instruction.{instructionWidth, wordsOf, hasDestination}
 use Rattle.lowering.specs.declared.Dest.{Dest}
 use Rattle.lowering.specs.Tree.{Tree}
 use Rattle.lowering.specs.Checked.{Checked}
@@ -48,7 +48,7 @@ module _ {t : Tree} {root : ℕ} where
       sum = firstField m place + registersOf m .«frame_size»
 
       moved : Outcome Unit
-      moved = ends tt (withCode (set (m .code) (4 * place + 1) sum) (instructionsOf m) m)
+      moved = ends tt (withCode (set (m .code) (instructionWidth * place + 1) sum) (instructionsOf m) m)
 
       made : hasDestination (kindAt m place) ≡ true → leb sum 255 ≡ true → patchArgument place m ≡ moved
       made e f = rw (e, f)

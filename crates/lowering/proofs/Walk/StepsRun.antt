@@ -27,8 +27,8 @@ use Rattle.environment.proofs.Laws.{Allocates, allocates, allocation-refused, t
 use Rattle.runtime.specs.declared.instruction.Instruction.{Instruction}
 use Rattle.runtime.specs.declared.operand.Operand.{Operand}
 use Rattle.runtime.specs.Operands.{regOf}
-use Rattle.runtime.specs.Instruction.{wordsOf, offsetWord}
-use Rattle.runtime.specs.Value.{constantWords}
+use Rattle.runtime.specs.Instruction.{instructionWidth, wordsOf, offsetWord}
+use Rattle.runtime.specs.Value.{constantWidth, constantWords}
 use Rattle.runtime.specs.Function.{emitInstruction, maxInstructions}
 use Rattle.runtime.specs.Pool.{Unpooled}
 use Rattle.runtime.proofs.Pool.{store-pooled, store-new}
@@ -198,14 +198,14 @@ pub record Gave (m₀ m : Made) (r : Register) (n : Made) : Type 0 where
   pub sound : Sound (registersOf n)
 
 -- word 0 of a record
-kind-word : (ws : List ℕ) (p : ℕ) → getD ws (4 * p) 0 ≡ getD (recordAt 4 ws p) 0 0
-kind-word ws p = ap (λ i. getD ws i 0) (sym (add-zero (4 * p))) ∙ sym (record-word 4 ws p 0 (omega arith))
+kind-word : (ws : List ℕ) (p : ℕ) → getD ws (instructionWidth * p) 0 ≡ getD (recordAt instructionWidth ws p) 0 0
+kind-word ws p = ap (λ i. getD ws i 0) (sym (add-zero (instructionWidth * p))) ∙ sym (record-word instructionWidth ws p 0 (omega arith))
 
 pub record Patched (m n : Made) : Type 0 where
   pub kept : Kept m n
   pub registers : registersOf n ≡ registersOf m
 
-pub offset-past : (kind : ℕ) → JumpKind kind → 0 < offsetWord kind
+offset-past : (kind : ℕ) → JumpKind kind → 0 < offsetWord kind
 unfolding offsetWord
 offset-past kind j = go (ltb kind 41) (ltb kind 42) (ltb kind 44) (ltb kind 54) refl refl
   where
@@ -282,12 +282,12 @@ module _ {t : Tree} {root : ℕ} where
 
   pub emit-good : (i : Instruction) (m : Made) → Narrow (constantsOf m) (wordsOf i) → Good t root (Emitted i m) (λ F. emit i) m
   unfolding emit emitInstruction placed
-  emit-good i m narrow = go (decLt (instructionsOf m) maxInstructions) (decLt (instructionsOf m) (capacity 4 (m .code)))
+  emit-good i m narrow = go (decLt (instructionsOf m) maxInstructions) (decLt (instructionsOf m) (capacity instructionWidth (m .code)))
     where
       put : List ℕ
-      put = putRecord 4 (m .code) (instructionsOf m) (wordsOf i)
+      put = putRecord instructionWidth (m .code) (instructionsOf m) (wordsOf i)
 
-      made : instructionsOf m < maxInstructions → instructionsOf m < capacity 4 (m .code) → emit i m ≡ ends (instructionsOf m) (withCode put (instructionsOf m + 1) m)
+      made : instructionsOf m < maxInstructions → instructionsOf m < capacity instructionWidth (m .code) → emit i m ≡ ends (instructionsOf m) (withCode put (instructionsOf m + 1) m)
       made l h =
           let fits : instructionsOf m < capacity (length (wordsOf i)) (m .code) = rw (length-words-of i) h in
           rw (append-room (m .code) (instructionsOf m) maxInstructions (wordsOf i) Refusal.Code l fits, length-words-of i)
@@ -296,7 +296,7 @@ module _ {t : Tree} {root : ℕ} where
           emit i m ≡ stops (unnamed Refusal.Code) m
       refused e = rw e
 
-      go : Dec (instructionsOf m < maxInstructions) → Dec (instructionsOf m < capacity 4 (m .code)) → Good t root (Emitted i m) (λ F. emit i) m
+      go : Dec (instructionsOf m < maxInstructions) → Dec (instructionsOf m < capacity instructionWidth (m .code)) → Good t root (Emitted i m) (λ F. emit i) m
       go (yes l) (yes h) =
           one {o = ends (instructionsOf m) (withCode put (instructionsOf m + 1) m)} (made l h) (emits i narrow l h)
           (fine (record {
@@ -305,10 +305,10 @@ module _ {t : Tree} {root : ℕ} where
               held = λ r x. x;
               more = omega arith;
               pooled = le-refl _;
-              kinds = λ p q. kind-word put p ∙ ap (λ x. getD x 0 0) (record-other 4 (m .code) (instructionsOf m) (wordsOf i) p (length-words-of i) (ne-of-lt q)) ∙ sym (kind-word (m .code) p);
+              kinds = λ p q. kind-word put p ∙ ap (λ x. getD x 0 0) (record-other instructionWidth (m .code) (instructionsOf m) (wordsOf i) p (length-words-of i) (ne-of-lt q)) ∙ sym (kind-word (m .code) p);
             };
             inside = omega arith;
-            kind = kind-word put (instructionsOf m) ∙ ap (λ x. getD x 0 0) (record-same 4 (m .code) (instructionsOf m) (wordsOf i) (length-words-of i) h);
+            kind = kind-word put (instructionsOf m) ∙ ap (λ x. getD x 0 0) (record-same instructionWidth (m .code) (instructionsOf m) (wordsOf i) (length-words-of i) h);
             registers = refl;
           }))
       go (yes l) (no h) =
@@ -331,7 +331,7 @@ module _ {t : Tree} {root : ℕ} where
       place = position (m .constants) (constantWords c) (constantsOf m)
 
       put : List ℕ
-      put = putRecord 3 (m .constants) (constantsOf m) (constantWords c)
+      put = putRecord constantWidth (m .constants) (constantsOf m) (constantWords c)
 
       unpooled : Unpooled (m .constants) c place
       unpooled q h whole e =
@@ -343,7 +343,7 @@ module _ {t : Tree} {root : ℕ} where
       old : place < n → store c m ≡ ends place m
       old l = rw (store-pooled (m .constants) (constantsOf m) c l)
 
-      made : n ≤ place → n < maxCount → n < capacity 3 (m .constants) → store c m ≡ ends n (withConstants put (n + 1) m)
+      made : n ≤ place → n < maxCount → n < capacity constantWidth (m .constants) → store c m ≡ ends n (withConstants put (n + 1) m)
       made o l h =
           let fits : constantsOf m < capacity (length (constantWords c)) (m .constants) = rw (constant-length c) h in
           rw (store-new (m .constants) (constantsOf m) c o, append-room (m .constants) (constantsOf m) maxCount (constantWords c) Refusal.Constants l fits, constant-length c)
@@ -352,7 +352,7 @@ module _ {t : Tree} {root : ℕ} where
           store c m ≡ stops (unnamed Refusal.Constants) m
       refused o e = rw (store-new (m .constants) (constantsOf m) c o, e)
 
-      new : n ≤ place → Dec (n < maxCount) → Dec (n < capacity 3 (m .constants)) → Good t root (Stored m) (λ F. store c) m
+      new : n ≤ place → Dec (n < maxCount) → Dec (n < capacity constantWidth (m .constants)) → Good t root (Stored m) (λ F. store c) m
       new o (yes l) (yes h) =
           one {o = ends n (withConstants put (n + 1) m)} (made o l h) (pools owned (λ q x. unpooled q (omega arith)) h)
           (fine (record { kept = record { sound = λ s. s; held = λ r x. x; more = le-refl _; pooled = omega arith; kinds = λ p q. refl }; inside = omega arith; registers = refl }))
@@ -366,12 +366,12 @@ module _ {t : Tree} {root : ℕ} where
       go : Dec (place < n) → Good t root (Stored m) (λ F. store c) m
       go (yes l) =
           let search : First (m .constants) (constantWords c) (constantsOf m) 0 place = found-first in
-          let there : recordAt 3 (m .constants) place ≡ constantWords c = rw (constant-length c) at (is-record (m .constants) (constantWords c) place (search .found (omega arith)) .1) in
+          let there : recordAt constantWidth (m .constants) place ≡ constantWords c = rw (constant-length c) at (is-record (m .constants) (constantWords c) place (search .found (omega arith)) .1) in
           one {o = ends place m} (old l) (finds c l there unpooled) (fine (record { kept = kept-refl m; inside = l; registers = refl }))
         where
           found-first : First (m .constants) (constantWords c) (constantsOf m) 0 place
           found-first = position-first (m .constants) (constantWords c) (constantsOf m)
-      go (no l) = new (omega arith) (decLt n maxCount) (decLt n (capacity 3 (m .constants)))
+      go (no l) = new (omega arith) (decLt n maxCount) (decLt n (capacity constantWidth (m .constants)))
 
   -- ---- jumps
 
@@ -383,12 +383,12 @@ module _ {t : Tree} {root : ℕ} where
       made : patchToNext j m ≡ ends tt (withCode (withOffset (m .code) j (instructionsOf m - j)) (instructionsOf m) m)
       made = refl
 
-      other : (p : ℕ) → p < instructionsOf m → getD (withOffset (m .code) j (instructionsOf m - j)) (4 * p) 0 ≡ kindAt m p
+      other : (p : ℕ) → p < instructionsOf m → getD (withOffset (m .code) j (instructionsOf m - j)) (instructionWidth * p) 0 ≡ kindAt m p
       other p h =
           let o : ℕ = offsetWord (kindAt m j) in
           let a : 0 < o = offset-past (kindAt m j) k in
           let b : o < 4 = offset-small (kindAt m j) in
-          getD-set-other (m .code) (4 * j + o) (4 * p) (instructionsOf m - j) 0 (λ e. omega arith)
+          getD-set-other (m .code) (instructionWidth * j + o) (instructionWidth * p) (instructionsOf m - j) 0 (λ e. omega arith)
 
   -- ---- marks
 
