@@ -1,7 +1,7 @@
 -- What a walk that lowers a child in place uses of the definition: where a node's value is, what a block and an operator come to, which node a kind's number is,
 -- and what patching refuses. Assumes nothing.
 use Prim.Native.Nat.{ℕ, zero, suc, _+_, _*_}
-use mathlib.Core.Path.{_≡_, refl, sym, ap, _∙_, subst, fun-ext}
+use mathlib.Core.Path.{_≡_, refl, sym, subst}
 use mathlib.Core.Logic.{_≢_, _⊎_, inl, inr}
 use mathlib.Core.Bool.{Bool, true, false, cond, true≢false, false≢true}
 use lib.Dec.{leb}
@@ -211,13 +211,6 @@ module _ (t : Tree) (E : ℕ → Dest → Walk Operand) (J : ℕ → Walk ℕ) (
       go false l = kept-into d (node-aimed n l (Dest.To d) m)
 
   -- with none given, one is taken, and then it is as if that one was given
-  pub literal-any : (n : Node) → isLiteral n ≡ true → (m : Made) →
-      lowerMaterializing (λ dest. lowerNode freeTemp t E J i n dest) Dest.Any m
-      ≡ bind (allocateTemp m) (λ d. lowerMaterializing (λ dest. lowerNode freeTemp t E J i n dest) (Dest.To d))
-  unfolding loadConstant destination bind
-  literal-any n l m =
-      literal-loaded n l Dest.Any m ∙ ap (λ (k : Register → Walk Register). bind (allocateTemp m) k) (fun-ext (λ d. fun-ext (λ m₁. sym (literal-loaded n l (Dest.To d) m₁))))
-
   pub binary-any : (operator : BinaryOp) (left right : ℕ) (m : Made) →
       lowerNode freeTemp t E J i (Node.Binary operator left right) Dest.Any m
       ≡ bind (allocateTemp m) (λ d. lowerNode freeTemp t E J i (Node.Binary operator left right) (Dest.To d))
@@ -268,11 +261,6 @@ unfoldable pub Stays : Source → Type 0
 Stays (register (Register.Temp r)) = ⊥
 Stays (register (Register.Local r)) = Unit {0}
 Stays (constant c) = Unit {0}
-
--- a local is not given back
-pub local-stays : (r : ℕ) (m : Made) → freeTemp (Register.Local r) m ≡ ends tt m
-unfolding freeTemp freed
-local-stays r m = refl
 
 -- a do-block in a do-block
 pub bind-bind : {A B C : Type 0} (o : Outcome A) (k : A → Walk B) (l : B → Walk C) → bind (bind o k) l ≡ bind o (λ x m. bind (k x m) l)

@@ -199,21 +199,6 @@ module _ {t : Tree} where
     unfolding question3
     kind-word = leb-true _ _ (c .kind)
 
-    pub boolean-word : nodeWord (t .nodes) i 0 ≡ 2 → nodeWord (t .nodes) i 1 ≤ 1
-    unfolding question4
-    boolean-word h =
-        let a : ℕ = nodeWord (t .nodes) i 1 in
-        let b : ℕ = nodeWord (t .nodes) i 2 in
-        leb-true a 1 (and-left (leb a 1) (eqb b 0) (and-left (leb a 1 && eqb b 0) _ (rw h at (c .unused))))
-
-    pub binary-word : nodeWord (t .nodes) i 0 ≡ 5 → nodeWord (t .nodes) i 1 ≤ 10
-    unfolding question4
-    binary-word h = leb-true _ 10 (rw h at (c .unused))
-
-    pub unary-word : nodeWord (t .nodes) i 0 ≡ 6 → nodeWord (t .nodes) i 1 ≤ 1
-    unfolding question4
-    unary-word h = leb-true _ 1 (and-left (leb (nodeWord (t .nodes) i 1) 1) _ (rw h at (c .unused)))
-
   -- past the last node every word reads 0
   past-words : Checked t → (i : ℕ) → capacity nodeWidth (t .nodes) ≤ i → (k : ℕ) → nodeWord (t .nodes) i k ≡ 0
   unfolding nodeWord capacity
