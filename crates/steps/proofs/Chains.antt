@@ -27,7 +27,7 @@ use Rattle.steps.specs.Answers.{registerAt, none, numberAt, settle, sett
 use Rattle.steps.proofs.Words.{registerAt-temporary, isRefusal-refusal, valueOf-refusal, numberOfRefusal-refusal, refusal-number, isRefusal-word, valueOf-word}
 
 -- whether an outcome stopped
-unfoldable stopped : {A : Type 0} → Outcome A → Bool
+unfoldable pub stopped : {A : Type 0} → Outcome A → Bool
 stopped (ends x m) = false
 stopped (stops e m) = true
 

@@ -1,3 +1,4 @@
 pub mod Chains
 mod OperatorEnds
+pub mod Seen
 pub mod Words

@@ -28,7 +28,7 @@ pub registerAt-temporary : (w : ℕ) → w < 256 → registerAt w ≡ Register.T
 unfolding registerAt
 registerAt-temporary w h = rw (lt-ltb w 256 h)
 
-registerAt-past : (w : ℕ) → 256 ≤ w → registerAt w ≡ Register.Local (w % 256)
+pub registerAt-past : (w : ℕ) → 256 ≤ w → registerAt w ≡ Register.Local (w % 256)
 unfolding registerAt
 registerAt-past w h = rw (le-ltb w 256 h)
 
@@ -156,10 +156,6 @@ module _ (w : ℕ) (h : w < wordEnd) where
 
   pub valueOf-word : valueOf w ≡ w
   valueOf-word = omega arith
-
-  pub isRefusal-inner : isRefusal (wordEnd + w) ≡ false
-  unfolding isRefusal
-  isRefusal-inner = lt-leb refusalStart (wordEnd + w) (omega arith)
 
   pub isInner-inner : isInner (wordEnd + w) ≡ true
   unfolding isInner

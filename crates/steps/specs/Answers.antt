@@ -119,6 +119,15 @@ settled (stops e m) = stops e (settle m)
 unfoldable pub seen : {A : Type 0} → Tree → (ℕ → A) → Made → ℕ → Outcome A
 seen t gives m a = cond (isRefusal a) (stops (errorAt t (refusalOf (numberOfRefusal a)) (valueOf a)) (settle m)) (ends (gives (valueOf a)) m)
 
+-- the answers of a step, by the words that it may give: one of these, or a refusal at a place
+pub data Answer (Given : ℕ → Type 0) : ℕ → Type 0 where
+  word : {w : ℕ} → Given w → w < wordEnd → Answer Given w
+  refusal : (why : Refusal) {place : ℕ} → place < wordEnd → Answer Given (refusalWord why place)
+
+-- words that are told apart by what they give
+abbrev pub ToldApart : {A : Type 0} → (ℕ → Type 0) → (ℕ → A) → Type 0
+ToldApart Given gives = (v w : ℕ) → Given v → Given w → gives v ≡ gives w → v ≡ w
+
 -- a place is the word itself; a step that gives nothing answers any word
 abbrev pub placeAt : ℕ → ℕ
 placeAt w = w
