@@ -9,7 +9,7 @@ use lib.Dec.{leb}
 use lib.ListN.{length, take, drop, replicate, length-replicate}
 use lib.Seq.{sets, sets-eq, take-at}
 use borrow.Author.Tests.{leb-true}
-use Rattle.words.specs.Words.{wordOf, words, tail, bytesOf}
+use Rattle.words.specs.Words.{wordBytes, wordOf, words, tail, bytesOf}
 use Rattle.syntax.specs.Ast.{nodeWidth}
 use Rattle.runtime.specs.Instruction.{instructionWidth}
 use Rattle.runtime.specs.Value.{constantWidth}
@@ -26,26 +26,26 @@ unfolding bytesOf
 bytes-append [] ys = refl
 bytes-append (x ∷ xs) ys = rw (bytes-append xs ys)
 
-length-bytes : (ws : List ℕ) → length (bytesOf ws) ≡ 4 * length ws
+length-bytes : (ws : List ℕ) → length (bytesOf ws) ≡ wordBytes * length ws
 unfolding bytesOf
 length-bytes [] = refl
 length-bytes (x ∷ ws) = omega (arith, length-bytes ws)
 
 -- the words of a buffer of zeros
-pub zero-words : (n : ℕ) → words (replicate (4 * n) 0) ≡ replicate n 0
+pub zero-words : (n : ℕ) → words (replicate (wordBytes * n) 0) ≡ replicate n 0
 unfolding words wordOf
 zero-words zero = refl
-zero-words (suc n) = let e : 4 * suc n ≡ suc (suc (suc (suc (4 * n)))) = omega arith in rw e (ap (λ (l : List ℕ). 0 ∷ l) (zero-words n))
+zero-words (suc n) = let e : wordBytes * suc n ≡ suc (suc (suc (suc (wordBytes * n)))) = omega arith in rw e (ap (λ (l : List ℕ). 0 ∷ l) (zero-words n))
 
-pub length-zeros : (n : ℕ) → length (words (replicate (4 * n) 0)) ≡ n
+pub length-zeros : (n : ℕ) → length (words (replicate (wordBytes * n) 0)) ≡ n
 length-zeros n = ap length (zero-words n) ∙ length-replicate {A = ℕ} n 0
 
 -- words stored at the start of a buffer are its first bytes
-stored-bytes : (vs ws rest : List ℕ) → length ws ≤ length vs → take (4 * length ws) (bytesOf (sets vs 0 ws) ++ rest) ≡ bytesOf ws
+stored-bytes : (vs ws rest : List ℕ) → length ws ≤ length vs → take (wordBytes * length ws) (bytesOf (sets vs 0 ws) ++ rest) ≡ bytesOf ws
 stored-bytes vs ws rest l =
     let behind : List ℕ = drop (0 + length ws) vs in
     let split : bytesOf (sets vs 0 ws) ≡ bytesOf ws ++ bytesOf behind = ap bytesOf (sets-eq ws vs 0 (omega arith)) ∙ bytes-append ws behind in
-    rw (split, append-assoc (bytesOf ws) (bytesOf behind) rest) (take-at (bytesOf ws) (bytesOf behind ++ rest) (4 * length ws) (length-bytes ws))
+    rw (split, append-assoc (bytesOf ws) (bytesOf behind) rest) (take-at (bytesOf ws) (bytesOf behind ++ rest) (wordBytes * length ws) (length-bytes ws))
 
 module _ (s : List ℕ) (h : Header) (e : readText s ≡ Head.Good h) where
   pub text-bounds : (h .nodes ≤ nodesBound) × (h .list ≤ listWordsBound) × (h .names ≤ parametersBound)
@@ -56,23 +56,23 @@ module _ (s : List ℕ) (h : Header) (e : readText s ≡ Head.Good h) where
 
   -- what reading leaves in a buffer that has place for it: the bytes of the part's words
   part-bytes : (reads : Header → List ℕ → Read) (w n : ℕ) → length (reads h s .words) ≡ w * n → {vs : List ℕ} (bytes : List ℕ)
-      → vs ≡ filled reads (readHeader s) s bytes → w * n ≤ length (words bytes) → take (4 * w * n) vs ≡ bytesOf (reads h s .words)
+      → vs ≡ filled reads (readHeader s) s bytes → w * n ≤ length (words bytes) → take (wordBytes * w * n) vs ≡ bytesOf (reads h s .words)
   unfolding filled
   part-bytes reads w n l bytes v p =
-      let k : 4 * w * n ≡ 4 * length (reads h s .words) = omega arith in
+      let k : wordBytes * w * n ≡ wordBytes * length (reads h s .words) = omega arith in
       rw (v, text-only s h e .head, k) (stored-bytes (words bytes) (reads h s .words) (tail bytes) (omega arith))
 
   module _ {vs : List ℕ} (bytes : List ℕ) where
     pub nodes-bytes : vs ≡ filled readNodes (readHeader s) s bytes → nodeWidth * h .nodes ≤ length (words bytes)
-        → take (4 * nodeWidth * h .nodes) vs ≡ bytesOf (readNodes h s .words)
+        → take (wordBytes * nodeWidth * h .nodes) vs ≡ bytesOf (readNodes h s .words)
     nodes-bytes = part-bytes readNodes nodeWidth (h .nodes) (nodes-only s h (text-only s h e) .2) bytes
 
     pub list-bytes : vs ≡ filled readList (readHeader s) s bytes → listWidth * h .list ≤ length (words bytes)
-        → take (4 * listWidth * h .list) vs ≡ bytesOf (readList h s .words)
+        → take (wordBytes * listWidth * h .list) vs ≡ bytesOf (readList h s .words)
     list-bytes = part-bytes readList listWidth (h .list) (list-only s h (text-only s h e) .2) bytes
 
     pub names-bytes : vs ≡ filled readNames (readHeader s) s bytes → nameWidth * h .names ≤ length (words bytes)
-        → take (4 * nameWidth * h .names) vs ≡ bytesOf (readNames h s .words)
+        → take (wordBytes * nameWidth * h .names) vs ≡ bytesOf (readNames h s .words)
     names-bytes = part-bytes readNames nameWidth (h .names) (names-only s h (text-only s h e) .2) bytes
 
   -- a good text prints the listing of its tree's lowering

@@ -5,35 +5,39 @@ use Prim.Native.Nat.{ℕ, _+_, _*_, _-_, _≤_, _<_}
 use native.Mathlib.Omega.{arith}
 use lib.ListN.{length, getD, take, drop, length-take, length-drop}
 use lib.Seq.{getD-take, getD-drop}
-use Rattle.words.specs.Words.{words}
+use Rattle.words.specs.Words.{wordBytes, words}
 use Rattle.words.specs.Records.{capacity}
 use Rattle.words.proofs.Words.{length-words, word-in}
 use Rattle.syntax.specs.Ast.{nodeWidth, nodeWord}
 use Rattle.questions.proofs.Asked.{NodeWords}
 
+-- the bytes of a node
+abbrev nodeSize : ℕ
+nodeSize = wordBytes * nodeWidth
+
 module _ (nodes : List ℕ) (i : ℕ) where
   -- from its first byte to its end
   abbrev pub nodeBytes : List ℕ
-  nodeBytes = take (24 * i + 24 - 24 * i) (drop (24 * i) nodes)
+  nodeBytes = take (nodeSize * i + nodeSize - nodeSize * i) (drop (nodeSize * i) nodes)
 
   module _ (inside : i < capacity nodeWidth (words nodes)) where
-    pub node-end : 24 * i + 24 ≤ length nodes
+    pub node-end : nodeSize * i + nodeSize ≤ length nodes
     unfolding capacity
     node-end = omega (arith, length-words nodes)
 
-    node-byte : (k n : ℕ) → k < 24 → n ≡ 24 * i + k → getD nodeBytes k 0 ≡ getD nodes n 0
-    node-byte k n h e = rw (getD-take (24 * i + 24 - 24 * i) (drop (24 * i) nodes) k 0 (omega arith), getD-drop (24 * i) nodes k 0, e)
+    node-byte : (k n : ℕ) → k < nodeSize → n ≡ nodeSize * i + k → getD nodeBytes k 0 ≡ getD nodes n 0
+    node-byte k n h e = rw (getD-take (nodeSize * i + nodeSize - nodeSize * i) (drop (nodeSize * i) nodes) k 0 (omega arith), getD-drop (nodeSize * i) nodes k 0, e)
 
-    pub node-word : (k : ℕ) → k < 6 → getD (words nodeBytes) k 0 ≡ nodeWord (words nodes) i k
+    pub node-word : (k : ℕ) → k < nodeWidth → getD (words nodeBytes) k 0 ≡ nodeWord (words nodes) i k
     unfolding nodeWord
     node-word k h =
-        let whole : length nodeBytes ≡ 24 = simp (length-take, length-drop) (omega (arith, node-end)) in
+        let whole : length nodeBytes ≡ nodeSize = simp (length-take, length-drop) (omega (arith, node-end)) in
         sym (word-in nodeBytes k (omega arith) refl refl refl refl)
-        ∙ word-in nodes (6 * i + k) (omega (arith, node-end))
-        (node-byte (4 * k) (4 * (6 * i + k)) (omega arith) (omega arith))
-        (node-byte (4 * k + 1) (4 * (6 * i + k) + 1) (omega arith) (omega arith))
-        (node-byte (4 * k + 2) (4 * (6 * i + k) + 2) (omega arith) (omega arith))
-        (node-byte (4 * k + 3) (4 * (6 * i + k) + 3) (omega arith) (omega arith))
+        ∙ word-in nodes (nodeWidth * i + k) (omega (arith, node-end))
+        (node-byte (wordBytes * k) (wordBytes * (nodeWidth * i + k)) (omega arith) (omega arith))
+        (node-byte (wordBytes * k + 1) (wordBytes * (nodeWidth * i + k) + 1) (omega arith) (omega arith))
+        (node-byte (wordBytes * k + 2) (wordBytes * (nodeWidth * i + k) + 2) (omega arith) (omega arith))
+        (node-byte (wordBytes * k + 3) (wordBytes * (nodeWidth * i + k) + 3) (omega arith) (omega arith))
 
     -- what is read off the part is what is asked
     pub node-words : {kind a b c : ℕ} → kind ≡ getD (words nodeBytes) 0 0 → a ≡ getD (words nodeBytes) 1 0 → b ≡ getD (words nodeBytes) 2 0
