@@ -115,7 +115,7 @@ unfoldable pub settled : {A : Type 0} → Outcome A → Outcome A
 settled (ends x m) = ends x m
 settled (stops e m) = stops e (settle m)
 
--- an answer and what is left, as an outcome; `gives` reads the word. Two words that the walk never makes may be read alike.
+-- an answer and what is left, as an outcome; `gives` reads the word. Numbers that are no `Answer` may be read alike.
 unfoldable pub seen : {A : Type 0} → Tree → (ℕ → A) → Made → ℕ → Outcome A
 seen t gives m a = cond (isRefusal a) (stops (errorAt t (refusalOf (numberOfRefusal a)) (valueOf a)) (settle m)) (ends (gives (valueOf a)) m)
 

@@ -3,16 +3,17 @@ use Prim.Native.Nat.{ℕ, _+_, _*_, _/_, _%_}
 use mathlib.Core.List.{List, [], _∷_}
 use lib.ListN.{length, drop}
 
--- the bytes of a word
+-- how many bytes a word has
 abbrev pub wordBytes : ℕ
 wordBytes = 4
 
--- "words are 32 bits, unsigned": words are below it, and bytes below the other
-abbrev pub wordEnd : ℕ
-wordEnd = 4294967296
-
+-- every byte is below it
 abbrev pub byteEnd : ℕ
 byteEnd = 256
+
+-- and every word below it: "words are 32 bits, unsigned"
+abbrev pub wordEnd : ℕ
+wordEnd = 4294967296
 
 -- the word of four bytes, the low one first
 unfoldable pub wordOf : ℕ → ℕ → ℕ → ℕ → ℕ
