@@ -34,7 +34,7 @@ use Rattle.steps.proofs.Words.{registerAt-local}
 use Rattle.steps.proofs.Chains.{stop-by, seen-refusal, seen-word}
 use Rattle.codegen.specs.Kinds.{binaryKind, andKind, orKind, ifKind, callKind}
 use Rattle.codegen.proofs.Walk.{below-of, expression-of, then-into, then-freed}
-use Rattle.codegen.proofs.Operands.{into-of}
+use Rattle.codegen.proofs.Children.{into-of}
 
 -- ---- a child in d
 

@@ -2,7 +2,7 @@
 use Prim.Native.Nat.{ℕ, zero, suc, _+_, _≤_, _<_}
 use native.Mathlib.Omega.{arith}
 use native.Mathlib.Decide.{ℕ-discrete}
-use mathlib.Core.Path.{_≡_, refl, sym, _∙_, ap}
+use mathlib.Core.Path.{_≡_, refl, sym}
 use mathlib.Core.Logic.{_⊎_, inl, inr}
 use mathlib.Core.Bool.{Bool, true, false, _&&_, false≢true}
 use mathlib.Core.List.{List}
@@ -23,17 +23,16 @@ use Rattle.lowering.specs.Checked.{Checked}
 use Rattle.lowering.specs.Walk.{Made, made, Outcome, Walk, bind}
 use Rattle.lowering.specs.Steps.{freeTemp, loadConstant}
 use Rattle.lowering.specs.Operators.{comparison}
-use Rattle.lowering.specs.Literals.{isLiteral, literal}
-use Rattle.lowering.specs.Lower.{source, lowerMaterializing, tested, fused, fusedSources, jumpNode, lowerExpression, lowerJumpIfFalse}
-use Rattle.lowering.proofs.Bound.Lowering.{expression-at}
-use Rattle.lowering.proofs.Destinations.{expression-register, literal-of, literal-loaded, node-kind}
+use Rattle.lowering.specs.Literals.{literal}
+use Rattle.lowering.specs.Lower.{source, lowerMaterializing, tested, fused, fusedSources, jumpNode, lowerExpression}
+use Rattle.lowering.proofs.Destinations.{expression-register, node-kind}
 use Rattle.operators.proofs.Compares.{compares-some, compares-none}
 use Rattle.steps.specs.declared.answer.Lowered.{Lowered}
 use Rattle.steps.specs.Answers.{registerAt, literalWord, operandAt, sourceAt, settled, seen}
 use Rattle.steps.proofs.Chains.{seen-word}
 use Rattle.steps.proofs.Words.{source-operand}
 use Rattle.codegen.specs.Kinds.{nameKind, binaryKind, andKind, ifKind, isCompared}
-use Rattle.codegen.proofs.Walk.{below-of, no-literal, in-register}
+use Rattle.codegen.proofs.Walk.{below-of, is-literal, no-literal, literal-expression, literal-materialized, in-register}
 
 -- ---- kinds by their numbers
 
@@ -59,48 +58,25 @@ module _ (k : ℕ) where
 
 -- ---- literals
 
--- a kind below the name's is a literal
-literal-kind : (k a b c : ℕ) → k < nameKind → isLiteral (getD nodeKinds k (λ x y z. Node.Nil) a b c) ≡ true
-unfolding isLiteral
-literal-kind zero a b c h = refl
-literal-kind (suc (zero)) a b c h = refl
-literal-kind (suc (suc (zero))) a b c h = refl
-literal-kind (suc (suc (suc (zero)))) a b c h = refl
-literal-kind (suc (suc (suc (suc k)))) a b c h = absurd (omega (arith, h))
-
 module _ {t : Tree} (checked : Checked t) (i : ℕ) where
-  is-literal : nodeWord (t .nodes) i 0 < nameKind → isLiteral (node t i) ≡ true
-  is-literal h = rw (node-kind t i (nodeWord (t .nodes) i 0) refl) (literal-kind (nodeWord (t .nodes) i 0) _ _ _ h)
-
-  -- a name, and any later kind, is none
-  not-literal : nameKind ≤ nodeWord (t .nodes) i 0 → isLiteral (node t i) ≡ false
-  unfolding isLiteral
-  not-literal h = go (ℕ-discrete (nodeWord (t .nodes) i 0) nameKind)
-    where
-      go : Dec (nodeWord (t .nodes) i 0 ≡ nameKind) → isLiteral (node t i) ≡ false
-      go (yes e) = rw (node-kind t i nameKind e)
-      go (no e) = no-literal checked i (omega arith)
-
   -- a literal is LITERAL, and nothing is made
   pub literal-left : nodeWord (t .nodes) i 0 < nameKind → (dest : Dest) (m : Made) → settled (lowerExpression freeTemp t i dest m) ≡ seen t (operandAt (node t i)) m literalWord
   unfolding settled operandAt
   literal-left h dest m =
-      rw (expression-at checked i dest, literal-of t (lowerExpression freeTemp t) (lowerJumpIfFalse freeTemp t) i (node t i) (is-literal h) dest)
+      rw (literal-expression t i (is-literal t i h) dest)
       (sym (seen-word t (operandAt (node t i)) m literalWord (omega arith)))
 
   -- its value in a register is loaded
   pub literal-value : nodeWord (t .nodes) i 0 < nameKind → (dest : Dest) (m : Made) {r : Outcome Register} → settled (loadConstant (literal (node t i)) dest m) ≡ r →
       settled (lowerMaterializing (lowerExpression freeTemp t i) dest m) ≡ r
-  unfolding lowerMaterializing
-  literal-value h dest m q =
-      rw (expression-at checked i dest) (ap settled (literal-loaded t (lowerExpression freeTemp t) (lowerJumpIfFalse freeTemp t) i (node t i) (is-literal h) dest m) ∙ q)
+  literal-value h dest m q = rw (literal-materialized t i (is-literal t i h) dest) q
 
   -- that of any other node is in the register that it answers
   pub answered-value : nameKind ≤ nodeWord (t .nodes) i 0 → (dest : Dest) (m m₁ : Made) (a : ℕ) →
       settled (lowerExpression freeTemp t i dest m) ≡ seen t (operandAt (node t i)) m₁ a → settled (lowerMaterializing (lowerExpression freeTemp t i) dest m) ≡ seen t registerAt m₁ a
   unfolding lowerMaterializing
   answered-value h dest m m₁ a e =
-      in-register t (node t i) dest (lowerExpression freeTemp t i dest m) m₁ a (not-literal h) (expression-register t i (not-literal h) dest m) e
+      in-register t (node t i) dest (lowerExpression freeTemp t i dest m) m₁ a (expression-register t i (no-literal checked i h) dest m) e
 
 -- what was made and answered where two ways meet, by the way that was gone
 pub at-meeting : {A : Type 0} (t : Tree) (gives : ℕ → A) {code code₁ pool pool₁ marks marks₁ : List ℕ} {r r₁ : Lowered} {o : Outcome A} →

@@ -1,15 +1,15 @@
 -- The laws of the flat nodes, by the words that the program has of them: a register that is needed, a name, a leaf, and an operator or a comparison of
 -- leaves. Assumes nothing.
-use Prim.Native.Nat.{ℕ, zero, suc, _/_, _%_, _<_, _≤_}
+use Prim.Native.Nat.{ℕ, _/_, _<_, _≤_}
 use native.Mathlib.Omega.{arith}
-use native.Mathlib.Decide.{ℕ-discrete, decLt}
-use mathlib.Core.Path.{_≡_, refl, sym, _∙_}
+use native.Mathlib.Decide.{ℕ-discrete}
+use mathlib.Core.Path.{_≡_, refl, sym, _∙_, ap}
 use mathlib.Core.Logic.{_≢_, inl, inr}
 use mathlib.Core.Bool.{Bool, true, false, cond, not, _&&_, _||_, and-false, false≢true, true≢false}
 use mathlib.Core.List.{List}
 use mathlib.Core.Option.{some}
 use lib.Dec.{eqb, leb}
-use lib.ListN.{length, getD}
+use lib.ListN.{length}
 use borrow.Author.Tests.{lt-ltb, le-ltb, le-leb, lt-leb, leb-true, eqb-true, eqb-false, eq-eqb, ne-eqb}
 use Rattle.diagnostics.specs.declared.Refusal.{Refusal}
 use Rattle.environment.specs.declared.Register.{Register}
@@ -17,7 +17,7 @@ use Rattle.environment.specs.Environment.{lookup}
 use Rattle.syntax.specs.declared.ast.Node.{Node}
 use Rattle.syntax.specs.declared.ops.BinaryOp.{BinaryOp}
 use Rattle.syntax.specs.declared.ops.Comparison.{Comparison}
-use Rattle.syntax.specs.Ast.{nodeKinds, nodeWord}
+use Rattle.syntax.specs.Ast.{nodeWord}
 use Rattle.syntax.specs.Ops.{binaryOp}
 use Rattle.runtime.specs.declared.instruction.Instruction.{Instruction}
 use Rattle.runtime.specs.declared.operand.Operand.{Operand}
@@ -28,10 +28,10 @@ use Rattle.lowering.specs.Checked.{Checked}
 use Rattle.lowering.specs.Walk.{Made, Outcome, ends, stops, Walk, bind, _>>=_, ret, unnamed}
 use Rattle.lowering.specs.Steps.{freeTemp, destination, emit, loadConstant}
 use Rattle.lowering.specs.Operators.{comparison, jumpIf}
-use Rattle.lowering.specs.Literals.{isLiteral, literal}
-use Rattle.lowering.specs.Lower.{Source, source, register, constant, sameRegister, materialized, lowerMaterializing, moved, named, tested, binarySources, fusedSources, fused, jumpNode}
-use Rattle.lowering.specs.Lower.{lowerNode, expressionBelow, jumpBelow, lowerExpression}
-use Rattle.lowering.proofs.Destinations.{Stays, bothConstant, binary-locals, literal-of, node-kind}
+use Rattle.lowering.specs.Literals.{literal}
+use Rattle.lowering.specs.Lower.{source, materialized, lowerMaterializing, moved, named, tested, binarySources, fusedSources, fused, jumpNode}
+use Rattle.lowering.specs.Lower.{lowerNode, lowerExpression}
+use Rattle.lowering.proofs.Destinations.{Stays, binary-locals, node-kind}
 use Rattle.steps.specs.Answers.{none, any, registerAt, literalWord, operandAt, sourceAt, wordEnd, refusalStart, refusalWord, isRefusal, errorAt, namesNode, settled, seen}
 use Rattle.steps.specs.Answers.{isInner, DestOrRefusal, WordOrRefusal}
 use Rattle.steps.proofs.Words.{source-operand, isInner-word}
@@ -39,7 +39,9 @@ use Rattle.steps.proofs.Chains.{then, stop, last, nested, seen-given, seen-stop
 use Rattle.codegen.specs.Ready.{InArena, wordOf}
 use Rattle.codegen.specs.Kinds.{nameKind, binaryKind}
 use Rattle.codegen.specs.Flat.{Falling, Given, areLeaves, isFlat, foundAt, LocalOr, askOperand, askInto, needing, flatNode}
-use Rattle.codegen.proofs.Walk.{expression-of}
+use Rattle.codegen.proofs.Walk.{expression-of, is-literal, literal-expression}
+use Rattle.codegen.proofs.Operands.{both-constant, oneLiteral, first-source, second-source}
+use Rattle.codegen.proofs.Reading.{named-at, local-word, same-word}
 
 -- ---- a register that is needed
 
@@ -104,80 +106,79 @@ pub loaded-operand : (t : Tree) (n : Node) (d : ℕ) (w : Walk Register) (m m₁
 loaded-operand t n d w m m₁ a given word e =
     rw (needing-then d w m (λ r. ret (Operand.Register r))) (as-operand t (needing d w m) m₁ a e ∙ given-operand t n m₁ d a given word)
 
+-- ---- a flat node by its kind
+
+-- how it is lowered
+module _ (t : Tree) (asked d i : ℕ) (m : Made) where
+  pub literal-flat : nodeWord (t .nodes) i 0 < nameKind → asked ≢ askOperand →
+      flatNode t asked d i m ≡ needing d (loadConstant (literal (node t i)) (Dest.To (registerAt d)) >>= λ x. ret (Operand.Register x)) m
+  unfolding flatNode
+  literal-flat kind h = rw (lt-ltb (nodeWord (t .nodes) i 0) nameKind kind, ne-eqb asked askOperand h)
+
+  pub literal-itself : nodeWord (t .nodes) i 0 < nameKind → asked ≡ askOperand → flatNode t asked d i m ≡ ends (literal (node t i)) m
+  unfolding flatNode
+  literal-itself kind h = rw (lt-ltb (nodeWord (t .nodes) i 0) nameKind kind, eq-eqb asked askOperand h)
+
+  pub name-flat : nodeWord (t .nodes) i 0 ≡ nameKind → flatNode t asked d i m ≡ lowerExpression freeTemp t i (cond (eqb asked askInto) (Dest.To (registerAt d)) Dest.Any) m
+  unfolding flatNode
+  name-flat kind = rw kind
+
+  pub binary-flat : nodeWord (t .nodes) i 0 ≡ binaryKind → flatNode t asked d i m ≡ needing d (lowerExpression freeTemp t i (Dest.To (registerAt d))) m
+  unfolding flatNode
+  binary-flat kind = rw kind
+
 -- ---- names
 
--- a name's word is no literal's, and a register's where it is declared
+-- a name's word is no literal's
 pub name-word : {w : ℕ} → LocalOr w → w ≢ literalWord
 name-word (inl h) e = omega arith
 name-word (inr h) e = omega arith
 
-pub name-below : {w : ℕ} → LocalOr w → w ≢ none → w < any
-name-below (inl e) h = absurd (h e)
-name-below (inr l) h = l .1
-
--- a register is itself, and a local is no other
-pub same-register : (w : ℕ) → sameRegister (registerAt w) (registerAt w) ≡ true
-unfolding registerAt sameRegister
-same-register w = go (decLt w 256)
-  where
-    go : Dec (w < 256) → sameRegister (registerAt w) (registerAt w) ≡ true
-    go (yes h) = rw (lt-ltb w 256 h) (eq-eqb w w refl)
-    go (no h) = rw (le-ltb w 256 (omega arith)) (eq-eqb (w % 256) (w % 256) refl)
-
-pub other-register : (d w : ℕ) → d < any → LocalOr w → w ≢ none → w ≢ d → sameRegister (registerAt d) (registerAt w) ≡ false
-unfolding registerAt sameRegister
-other-register d w few (inl e) declared other = absurd (declared e)
-other-register d w few (inr h) declared other = rw (le-ltb w 256 (h .0)) (go (decLt d 256))
-  where
-    go : Dec (d < 256) → sameRegister (registerAt d) (Register.Local (w % 256)) ≡ false
-    go (yes k) = rw (lt-ltb d 256 k)
-    go (no k) = rw (le-ltb d 256 (omega arith)) (ne-eqb (d % 256) (w % 256) (λ e. omega arith))
-
 -- a name, by the word of its register
 module _ (t : Tree) (i : ℕ) (kind : nodeWord (t .nodes) i 0 ≡ nameKind) (w : ℕ) (found : foundAt w ≡ lookup (t .names) (length (t .names)) (nodeWord (t .nodes) i 1)) where
-  named-at : (dest : Dest) → lowerExpression freeTemp t i dest ≡ named t i (foundAt w) dest
-  unfolding lowerExpression expressionBelow lowerNode
-  named-at dest = rw (node-kind t i nameKind kind, found)
-
-  pub name-declared : (dest : Dest) → w ≢ none → lowerExpression freeTemp t i dest ≡ moved t (registerAt w) dest
+  name-declared : (dest : Dest) (m : Made) → w ≢ none → lowerExpression freeTemp t i dest m ≡ moved t (registerAt w) dest m
   unfolding named foundAt
-  name-declared dest h = rw (named-at dest, ne-eqb w none h)
+  name-declared dest m h = named-at t i m dest kind found ∙ rw (ne-eqb w none h)
 
   pub stop-name : {B : Type 0} (dest : Dest) (m : Made) (k : Operand → Walk B) (gives : ℕ → B) → w ≡ none → i < wordEnd →
       settled (bind (lowerExpression freeTemp t i dest m) k) ≡ seen t gives m (refusalWord Refusal.Undeclared i)
   unfolding named foundAt errorAt namesNode bind settled
-  stop-name dest m k gives h small = rw (named-at dest, eq-eqb w none h) (sym (seen-refusal t gives m Refusal.Undeclared i small))
+  stop-name dest m k gives h small = rw (named-at t i m dest kind found, eq-eqb w none h) (sym (seen-refusal t gives m Refusal.Undeclared i small))
 
   pub then-name : {B : Type 0} (m : Made) (k : Operand → Walk B) {r : Outcome B} → w ≢ none → settled (k (Operand.Register (registerAt w)) m) ≡ r →
       settled (bind (lowerExpression freeTemp t i Dest.Any m) k) ≡ r
   unfolding moved bind
-  then-name m k h q = rw (name-declared Dest.Any h) q
+  then-name m k h q = rw (name-declared Dest.Any m h) q
 
   -- as a flat node: its own register if none is given or it is that one, else a Move
   module _ (asked d : ℕ) (m : Made) where
     flat-name : {r : Outcome Operand} → settled (lowerExpression freeTemp t i (cond (eqb asked askInto) (Dest.To (registerAt d)) Dest.Any) m) ≡ r →
         settled (flatNode t asked d i m) ≡ r
-    unfolding flatNode
-    flat-name q = rw kind q
+    flat-name q = ap settled (name-flat t asked d i m kind) ∙ q
 
     pub flat-name-undeclared : (gives : ℕ → Operand) → w ≡ none → i < wordEnd → settled (flatNode t asked d i m) ≡ seen t gives m (refusalWord Refusal.Undeclared i)
     flat-name-undeclared gives h small = flat-name (last _ (stop-name _ m (λ x. ret x) gives h small))
 
-    pub flat-name-own : {r : Outcome Operand} → w ≢ none → not (eqb asked askInto) || eqb w d ≡ true → ends (Operand.Register (registerAt w)) m ≡ r →
+    pub flat-name-own : {r : Outcome Operand} → LocalOr w → w ≢ none → not (eqb asked askInto) || eqb w d ≡ true → ends (Operand.Register (registerAt w)) m ≡ r →
         settled (flatNode t asked d i m) ≡ r
     unfolding moved settled
-    flat-name-own {r} h own q = flat-name (rw (name-declared (cond (eqb asked askInto) (Dest.To (registerAt d)) Dest.Any) h) (go (eqb asked askInto) own))
+    flat-name-own {r} local h own q = flat-name (rw (name-declared (cond (eqb asked askInto) (Dest.To (registerAt d)) Dest.Any) m h) (go (eqb asked askInto) own))
       where
+        declared : (256 ≤ w) × (w < any)
+        declared = local-word local h
+
         go : (b : Bool) → not b || eqb w d ≡ true → settled (moved t (registerAt w) (cond b (Dest.To (registerAt d)) Dest.Any) m) ≡ r
         go false own = q
-        go true own = rw (← eqb-true w d own, same-register w) q
+        go true own = rw (← eqb-true w d own, same-word w w (declared .1) (declared .0) (declared .1), eq-eqb w w refl) q
 
     pub flat-name-moved : {r : Outcome Operand} → LocalOr w → w ≢ none → asked ≡ askInto → d < any → w ≢ d →
         settled (bind (emit (Instruction.Move (regOf (registerAt d)) (regOf (registerAt w))) m) (λ x. ret (Operand.Register (registerAt d)))) ≡ r →
         settled (flatNode t asked d i m) ≡ r
     unfolding moved
     flat-name-moved local h into few other q =
-        flat-name (rw (eq-eqb asked askInto into, name-declared (Dest.To (registerAt d)) h, other-register d w few local h other) q)
+        let declared = local-word local h in
+        let differs : eqb d w ≡ false = ne-eqb d w (λ e. other (sym e)) in
+        flat-name (rw (eq-eqb asked askInto into, name-declared (Dest.To (registerAt d)) m h, same-word d w few (declared .0) (declared .1), differs) q)
 
   -- as a condition: the test of its own register
   module _ (E : ℕ → Dest → Walk Operand) (sense : Bool) (m : Made) where
@@ -189,7 +190,7 @@ module _ (t : Tree) (i : ℕ) (kind : nodeWord (t .nodes) i 0 ≡ nameKind) (w :
     pub condition-name : {r : Outcome ℕ} → w ≢ none → settled (emit (jumpIf sense (regOf (registerAt w))) m) ≡ r →
         settled (jumpNode t E sense (lowerExpression freeTemp t i) (node t i) m) ≡ r
     unfolding jumpNode tested lowerMaterializing moved source materialized bind
-    condition-name h q = rw (node-kind t i nameKind kind, name-declared Dest.Any h) q
+    condition-name h q = rw (node-kind t i nameKind kind, name-declared Dest.Any m h) q
 
 -- another register was given
 pub asked-into : (asked w d : ℕ) → not (eqb asked askInto) || eqb w d ≡ false → (asked ≡ askInto) × (w ≢ d)
@@ -207,18 +208,6 @@ Leaf t i w =
     (nodeWord (t .nodes) i 0 ≡ nameKind → (foundAt w ≡ lookup (t .names) (length (t .names)) (nodeWord (t .nodes) i 1)) × LocalOr w)
     × (nodeWord (t .nodes) i 0 ≢ nameKind → w ≡ literalWord)
 
--- a kind below 4 is a literal
-literal-kind : (k a b c : ℕ) → k < nameKind → isLiteral (getD nodeKinds k (λ x y z. Node.Nil) a b c) ≡ true
-unfolding isLiteral
-literal-kind zero a b c h = refl
-literal-kind (suc (zero)) a b c h = refl
-literal-kind (suc (suc (zero))) a b c h = refl
-literal-kind (suc (suc (suc (zero)))) a b c h = refl
-literal-kind (suc (suc (suc (suc (k))))) a b c h = absurd (omega (arith, h))
-
-pub is-literal : (t : Tree) (i : ℕ) → nodeWord (t .nodes) i 0 < nameKind → isLiteral (node t i) ≡ true
-is-literal t i h = rw (node-kind t i (nodeWord (t .nodes) i 0) refl) (literal-kind (nodeWord (t .nodes) i 0) _ _ _ h)
-
 module _ (t : Tree) (i w : ℕ) (leaf : Leaf t i w) where
   module _ {B : Type 0} (m : Made) (k : Operand → Walk B) where
     pub stop-leaf : (gives : ℕ → B) → w ≡ none → i < wordEnd →
@@ -231,13 +220,13 @@ module _ (t : Tree) (i w : ℕ) (leaf : Leaf t i w) where
 
     pub then-leaf : {r : Outcome B} → nodeWord (t .nodes) i 0 ≤ nameKind → w ≢ none → settled (k (operandAt (node t i) w) m) ≡ r →
         settled (bind (lowerExpression freeTemp t i Dest.Any m) k) ≡ r
-    unfolding lowerExpression expressionBelow bind operandAt
+    unfolding bind operandAt
     then-leaf {r} few h q = go (ℕ-discrete (nodeWord (t .nodes) i 0) nameKind)
       where
         go : Dec (nodeWord (t .nodes) i 0 ≡ nameKind) → settled (bind (lowerExpression freeTemp t i Dest.Any m) k) ≡ r
         go (yes e) = then-name t i e w (leaf .0 e .0) m k h (rw (ne-eqb w literalWord (name-word (leaf .0 e .1))) at q)
         go (no e) =
-            rw (literal-of t (λ n d. expressionBelow freeTemp t i n d) (λ n. jumpBelow freeTemp t i n) i (node t i) (is-literal t i (omega arith)) Dest.Any)
+            rw (literal-expression t i (is-literal t i (omega arith)) Dest.Any)
             (rw (eq-eqb w literalWord (leaf .1 e)) at q)
 
   -- a local is not given back, and a literal neither
@@ -252,34 +241,6 @@ module _ (t : Tree) (i w : ℕ) (leaf : Leaf t i w) where
       go : Dec (nodeWord (t .nodes) i 0 ≡ nameKind) → Stays (sourceAt c w)
       go (yes e) = local (leaf .0 e .1)
       go (no e) = rw (eq-eqb w literalWord (leaf .1 e)) tt
-
--- ---- two sources, of which one at most is a constant
-
-both-constant : (a b : Operand) (w₁ w₂ : ℕ) → bothConstant (sourceAt a w₁) (sourceAt b w₂) ≡ eqb w₁ literalWord && eqb w₂ literalWord
-unfolding bothConstant sourceAt
-both-constant a b w₁ w₂ = go (eqb w₁ literalWord) (eqb w₂ literalWord)
-  where
-    go : (x y : Bool) → bothConstant (cond x (constant a) (register (registerAt w₁))) (cond y (constant b) (register (registerAt w₂))) ≡ x && y
-    go true true = refl
-    go true false = refl
-    go false true = refl
-    go false false = refl
-
--- the constant that one of them is
-abbrev pub oneOf : ℕ → ℕ → Operand → Operand → Operand
-oneOf w₁ w₂ a b = cond (eqb w₁ literalWord) a (cond (eqb w₂ literalWord) b Operand.Nil)
-
-pub one-constant : (w₁ w₂ : ℕ) (a b : Operand) → eqb w₁ literalWord && eqb w₂ literalWord ≡ false →
-    (sourceAt a w₁ ≡ sourceAt (oneOf w₁ w₂ a b) w₁) × (sourceAt b w₂ ≡ sourceAt (oneOf w₁ w₂ a b) w₂)
-unfolding sourceAt
-one-constant w₁ w₂ a b = go (eqb w₁ literalWord) (eqb w₂ literalWord) (register (registerAt w₁)) (register (registerAt w₂))
-  where
-    go : (x y : Bool) (p q : Source) → x && y ≡ false →
-        (cond x (constant a) p ≡ cond x (constant (cond x a (cond y b Operand.Nil))) p) × (cond y (constant b) q ≡ cond y (constant (cond x a (cond y b Operand.Nil))) q)
-    go true true p q h = absurd (false≢true (sym h))
-    go true false p q h = (refl, refl)
-    go false true p q h = (refl, refl)
-    go false false p q h = (refl, refl)
 
 -- ---- an operator or a comparison of two leaves
 
@@ -316,12 +277,12 @@ module _ (nodes : List ℕ) (left right : ℕ) (leaves : areLeaves nodes left ri
 
     -- c: the constant that one of them is
     module _ (E : ℕ → Dest → Walk Operand) (m : Made) (c : Operand)
-        (is : c ≡ oneOf w₁ w₂ (literal (node (treeOf nodes list names) left)) (literal (node (treeOf nodes list names) right))) where
+        (is : c ≡ oneLiteral (literal (node (treeOf nodes list names) left)) (literal (node (treeOf nodes list names) right)) w₁ w₂) where
       left-source : source (operandAt (node (treeOf nodes list names) left) w₁) ≡ sourceAt c w₁
-      left-source = source-operand (node (treeOf nodes list names) left) w₁ ∙ rw is (one-constant w₁ w₂ _ _ not-both .0)
+      left-source = source-operand (node (treeOf nodes list names) left) w₁ ∙ rw is (sym (first-source _ _ w₁ w₂))
 
       right-source : source (operandAt (node (treeOf nodes list names) right) w₂) ≡ sourceAt c w₂
-      right-source = source-operand (node (treeOf nodes list names) right) w₂ ∙ rw is (one-constant w₁ w₂ _ _ not-both .1)
+      right-source = source-operand (node (treeOf nodes list names) right) w₂ ∙ rw is (sym (second-source _ _ w₁ w₂ not-both))
 
       -- an operator: nothing is given back
       pub binary-leaves : w₁ ≢ none → w₂ ≢ none → (operator : BinaryOp) (d : Register) {r : Outcome Operand} →
@@ -368,9 +329,8 @@ module _ (t : Tree) (i operator left right : ℕ) (kind : nodeWord (t .nodes) i 
   unfolding jumpNode fused
   compared-of E sense own op compares q = rw (node-kind t i binaryKind kind, ← at-operator, compares, ← at-left, ← at-right) q
 
--- ---- a flat node by its kind
+-- ---- whether a node is flat
 
--- whether it is one
 module _ (nodes : List ℕ) (i : ℕ) where
   pub flat-leaf : wordOf nodes i 0 ≤ nameKind → isFlat nodes i ≡ true
   unfolding isFlat
@@ -383,20 +343,3 @@ module _ (nodes : List ℕ) (i : ℕ) where
   pub flat-other : binaryKind < wordOf nodes i 0 → isFlat nodes i ≡ false
   unfolding isFlat
   flat-other h = rw (ne-eqb (wordOf nodes i 0) binaryKind (λ e. omega arith)) (lt-leb (wordOf nodes i 0) nameKind (omega arith))
-
--- and how it is lowered
-module _ (t : Tree) (asked d i : ℕ) (m : Made) {r : Outcome Operand} where
-  pub flat-operand : nodeWord (t .nodes) i 0 < nameKind → asked ≡ askOperand → ends (literal (node t i)) m ≡ r → settled (flatNode t asked d i m) ≡ r
-  unfolding flatNode settled
-  flat-operand kind h q = rw (lt-ltb (nodeWord (t .nodes) i 0) nameKind kind, eq-eqb asked askOperand h) q
-
-  pub flat-loaded : nodeWord (t .nodes) i 0 < nameKind → asked ≢ askOperand →
-      settled (needing d (loadConstant (literal (node t i)) (Dest.To (registerAt d)) >>= λ x. ret (Operand.Register x)) m) ≡ r →
-      settled (flatNode t asked d i m) ≡ r
-  unfolding flatNode
-  flat-loaded kind h q = rw (lt-ltb (nodeWord (t .nodes) i 0) nameKind kind, ne-eqb asked askOperand h) q
-
-  pub flat-needing : nodeWord (t .nodes) i 0 ≡ binaryKind → settled (needing d (lowerExpression freeTemp t i (Dest.To (registerAt d))) m) ≡ r →
-      settled (flatNode t asked d i m) ≡ r
-  unfolding flatNode
-  flat-needing kind q = rw kind q

@@ -1,93 +1,40 @@
--- What the arms of an operator, a block and a property use beside Walk: a register's word, a child by what was tried and walked, a unary operator and not as one
--- block, and the two sources of an operator. Assumes nothing.
-use Prim.Native.Nat.{ℕ, _+_, _*_, _<_, _≤_}
-use native.Mathlib.Omega.{arith}
+-- What the arms of an operator, a block and a property use beside Walk and Children: a register's word, a unary operator and not as one block, and the two sources
+-- of an operator. Assumes nothing.
+use Prim.Native.Nat.{ℕ, _<_}
 use native.Mathlib.Decide.{ℕ-discrete}
-use mathlib.Core.Path.{_≡_, refl, sym, _∙_, ap, subst, fun-ext}
+use mathlib.Core.Path.{_≡_, refl, sym, _∙_, subst}
 use mathlib.Core.Logic.{_≢_, _⊎_, inl, inr}
-use mathlib.Core.Bool.{Bool, true, false, cond, _&&_, false≢true}
+use mathlib.Core.Bool.{Bool, true, false, cond, _&&_, true≢false, false≢true}
 use mathlib.Core.List.{List, [], _∷_}
 use lib.Dec.{eqb}
-use borrow.Author.Tests.{le-leb, eq-eqb, ne-eqb}
+use borrow.Author.Tests.{eq-eqb, ne-eqb}
 use Rattle.environment.specs.declared.Register.{Register}
-use Rattle.syntax.specs.declared.ast.Node.{Node}
 use Rattle.syntax.specs.declared.ops.BinaryOp.{BinaryOp}
 use Rattle.syntax.specs.Ops.{unaryOp}
-use Rattle.syntax.specs.Ast.{nodeWord}
 use Rattle.runtime.specs.declared.instruction.Instruction.{Instruction}
 use Rattle.runtime.specs.declared.operand.Operand.{Operand}
 use Rattle.runtime.specs.Instruction.{wordsOf}
 use Rattle.runtime.specs.Operands.{regOf}
 use Rattle.lowering.specs.declared.Dest.{Dest}
-use Rattle.lowering.specs.declared.State.{State}
 use Rattle.lowering.specs.Tree.{Tree, treeOf, node}
 use Rattle.lowering.specs.Checked.{Checked}
-use Rattle.lowering.specs.Walk.{Made, made, Outcome, ends, Walk, bind, _>>=_, _>>_, ret}
-use Rattle.lowering.specs.Steps.{destination, emit, freeTemp, loadConstant, withRegisters}
+use Rattle.lowering.specs.Walk.{Made, Outcome, ends, Walk, bind, _>>=_, _>>_, ret}
+use Rattle.lowering.specs.Steps.{destination, emit, freeTemp}
 use Rattle.lowering.specs.Operators.{unary}
 use Rattle.lowering.specs.Literals.{isLiteral, literal}
-use Rattle.lowering.specs.Lower.{Source, register, constant, source, lowerMaterializing, lowerNode, expressionBelow, jumpBelow, lowerExpression, binarySources}
-use Rattle.lowering.proofs.Destinations.{GivesRegister, expression-register, literal-source, literal-loaded, bothConstant, freeSource, binary-given-back}
-use Rattle.steps.specs.declared.answer.Lowered.{Lowered}
-use Rattle.steps.specs.Answers.{any, registerAt, destOf, literalWord, operandAt, sourceAt, settled, seen, isRefusal, isInner, valueOf, refusalStart, DestOrRefusal, RegisterOrRefusal}
-use Rattle.steps.proofs.Chains.{got, seen-given, seen-stopped, seen-word}
+use Rattle.lowering.specs.Lower.{Source, register, constant, source, lowerMaterializing, lowerNode, lowerExpression, binarySources}
+use Rattle.lowering.proofs.Destinations.{GivesRegister, expression-register, literal-source, bothConstant, freeSource, binary-given-back}
+use Rattle.steps.specs.Answers.{any, registerAt, literalWord, operandAt, sourceAt, settled, seen, isRefusal, valueOf, RegisterOrRefusal}
+use Rattle.steps.proofs.Chains.{got, seen-given}
 use Rattle.steps.proofs.Words.{register-value, source-operand}
-use Rattle.codegen.specs.Ready.{wordOf, Ready, ReadyTo}
-use Rattle.codegen.specs.Kinds.{binaryKind, unaryKind, notKind, onlyOperand, twoLiterals}
-use Rattle.codegen.proofs.Walk.{below-of, expression-of, child-operand, child-register, child-into, ended}
+use Rattle.codegen.specs.Ready.{wordOf}
+use Rattle.codegen.specs.Kinds.{unaryKind, notKind, onlyOperand, twoLiterals}
+use Rattle.codegen.proofs.Walk.{below-of, expression-of, literal-materialized, no-register}
 
 -- ---- a register's word, by what the program asked and read
 
 pub register-word : {b : Bool} {x : ℕ} (a : ℕ) → b ≡ isRefusal a → b ≡ false → x ≡ valueOf a → RegisterOrRefusal a → x < any
 register-word a told left read h = rw read (register-value a (sym told ∙ left) h)
-
--- ---- what the trial of a child left is kept, or nothing was done
-
-kept-words : {k k₁ p p₁ q q₁ : List ℕ} {f r : Lowered} → (r ≡ f) × ((k₁ ≡ k) × ((p₁ ≡ p) × (q₁ ≡ q))) → (made k₁ p₁ q₁ (r .state) ≡ made k p q (f .state)) × (r .answer ≡ f .answer)
-kept-words same = (rw (same .0, same .1 .0, same .1 .1 .0, same .1 .1 .1), ap (λ x. x .answer) (same .0))
-
-untouched-words : {A : Type 0} {k k₁ p p₁ q : List ℕ} {s : State} → A × ((k₁ ≡ k) × (p₁ ≡ p)) → made k₁ p₁ q s ≡ made k p q s
-untouched-words same = rw (same .1 .0, same .1 .1)
-
--- ---- a child that was tried (f) and, if it was not flat, walked (r)
-
--- what the walk of it asks for: a node below i, where the measure is that of node i or more
-pub walk-requires : (nodes list names : List ℕ) {i t : ℕ} (n dest a : ℕ) → Ready nodes list names i → n < i → 8 * i ≤ t → dest ≤ any → (isInner a ≡ true → valueOf a ≤ n) →
-    (cond (isInner a) (8 * valueOf a + 3) 0 < t) × (isInner a ≡ true → ReadyTo nodes list names (valueOf a) dest)
-walk-requires nodes list names {i} {t} n dest a ready below at few same = (go (isInner a) refl, λ h. ((ready .0, (ready .1 .0, omega (arith, same h, ready .1 .1))), few))
-  where
-    go : (b : Bool) → isInner a ≡ b → cond b (8 * valueOf a + 3) 0 < t
-    go true h = omega (arith, same h)
-    go false h = omega arith
-
-module _ {t : Tree} (checked : Checked t) {n : ℕ} {k k₁ k₂ p p₁ p₂ q q₂ : List ℕ} {s : State} {f r : Lowered}
-    (inner : isInner (f .answer) ≡ true → ((f .state ≡ s) × ((k₁ ≡ k) × (p₁ ≡ p))) × ((valueOf (f .answer) ≡ n) × (binaryKind ≤ nodeWord (t .nodes) n 0)))
-    (walked : isInner (f .answer) ≡ true →
-    settled (lowerExpression freeTemp t (valueOf (f .answer)) (destOf any) (made k₁ p₁ q s)) ≡ seen t (operandAt (node t (valueOf (f .answer)))) (made k₂ p₂ q₂ (r .state)) (r .answer))
-    (done : isInner (f .answer) ≡ false → (r ≡ f) × ((k₂ ≡ k₁) × ((p₂ ≡ p₁) × (q₂ ≡ q)))) where
-  -- its operand
-  pub operand-of : (isInner (f .answer) ≡ false → settled (lowerExpression freeTemp t n Dest.Any (made k p q s)) ≡ seen t (operandAt (node t n)) (made k₁ p₁ q (f .state)) (f .answer)) →
-      settled (lowerExpression freeTemp t n Dest.Any (made k p q s)) ≡ seen t (operandAt (node t n)) (made k₂ p₂ q₂ (r .state)) (r .answer)
-  operand-of tried =
-      child-operand checked n _ _ _ _ _ _ (λ h. kept-words (done h)) (λ h. untouched-words (inner h .0)) tried (λ h. inner h .1 .0) walked
-
-  -- its value in a register
-  pub register-of : (isInner (f .answer) ≡ false → settled (lowerMaterializing (lowerExpression freeTemp t n) Dest.Any (made k p q s)) ≡ seen t registerAt (made k₁ p₁ q (f .state)) (f .answer)) →
-      settled (lowerMaterializing (lowerExpression freeTemp t n) Dest.Any (made k p q s)) ≡ seen t registerAt (made k₂ p₂ q₂ (r .state)) (r .answer)
-  register-of tried =
-      child-register checked n _ _ _ _ _ _ (λ h. kept-words (done h)) (λ h. untouched-words (inner h .0)) tried (λ h. inner h .1 .0) (λ h. inner h .1 .1) walked
-
--- its value in d
-pub into-of : {t : Tree} (checked : Checked t) {n d : ℕ} {k k₁ k₂ p p₁ p₂ q q₂ : List ℕ} {s : State} {f r : Lowered} → d < any →
-    (isInner (f .answer) ≡ true → ((f .state ≡ s) × ((k₁ ≡ k) × (p₁ ≡ p))) × ((valueOf (f .answer) ≤ n) × (binaryKind ≤ nodeWord (t .nodes) (valueOf (f .answer)) 0))) →
-    ((e : Register) (m : Made) → isInner (f .answer) ≡ true → lowerMaterializing (lowerExpression freeTemp t n) (Dest.To e) m ≡ lowerMaterializing (lowerExpression freeTemp t (valueOf (f .answer))) (Dest.To e) m) →
-    (isInner (f .answer) ≡ true →
-    settled (lowerExpression freeTemp t (valueOf (f .answer)) (destOf d) (made k₁ p₁ q s)) ≡ seen t (operandAt (node t (valueOf (f .answer)))) (made k₂ p₂ q₂ (r .state)) (r .answer)) →
-    (isInner (f .answer) ≡ false → (r ≡ f) × ((k₂ ≡ k₁) × ((p₂ ≡ p₁) × (q₂ ≡ q)))) →
-    (isInner (f .answer) ≡ false → settled (lowerMaterializing (lowerExpression freeTemp t n) (Dest.To (registerAt d)) (made k p q s)) ≡ seen t registerAt (made k₁ p₁ q (f .state)) (f .answer)) →
-    settled (lowerMaterializing (lowerExpression freeTemp t n) (Dest.To (registerAt d)) (made k p q s)) ≡ seen t registerAt (made k₂ p₂ q₂ (r .state)) (r .answer)
-into-of checked {n} {d} few inner same walked done tried =
-    child-into checked n _ _ _ _ _ _ (λ h. kept-words (done h)) (λ h. untouched-words (inner h .0)) d few tried (λ h. same _ _ h) (λ h. inner h .1 .1) walked
 
 -- ---- a unary operator, or not
 
@@ -127,15 +74,6 @@ module _ (nodes : List ℕ) (i : ℕ) where
 
 -- ---- the two sources of an operator
 
--- a constant is in no register
-no-register : (x c : Operand) (m : Made) → source x ≡ constant c → GivesRegister (ends x m) → ⊥
-unfolding source GivesRegister
-no-register (Operand.Register r) c m e g = let z : _≡_ {A = ℕ} 0 1 = cc in omega arith
-no-register (Operand.Number x) c m e g = g
-no-register (Operand.String symbol) c m e g = g
-no-register (Operand.Boolean b) c m e g = g
-no-register Operand.Nil c m e g = g
-
 -- both words are a literal's
 pub both-literal : (v w : ℕ) → eqb v literalWord && eqb w literalWord ≡ true → (v ≡ literalWord) × (w ≡ literalWord)
 both-literal v w h = go (ℕ-discrete v literalWord) (ℕ-discrete w literalWord)
@@ -146,7 +84,7 @@ both-literal v w h = go (ℕ-discrete v literalWord) (ℕ-discrete w literalWord
     go (yes e) (no f) = absurd (false≢true (rw (eq-eqb v literalWord e, ne-eqb w literalWord f) at h))
 
 -- both sources are constants where both words are a literal's
-both-constant : (c e : Operand) (v w : ℕ) → bothConstant (sourceAt c v) (sourceAt e w) ≡ eqb v literalWord && eqb w literalWord
+pub both-constant : (c e : Operand) (v w : ℕ) → bothConstant (sourceAt c v) (sourceAt e w) ≡ eqb v literalWord && eqb w literalWord
 unfolding sourceAt bothConstant
 both-constant c e v w = go (eqb v literalWord) (eqb w literalWord)
   where
@@ -155,6 +93,29 @@ both-constant c e v w = go (eqb v literalWord) (eqb w literalWord)
     go true false = refl
     go false true = refl
     go false false = refl
+
+-- the literal of one of two sources is each one's, where not both are literals
+module _ (a b : Operand) (src1 src2 : ℕ) where
+  abbrev pub oneLiteral : Operand
+  oneLiteral = cond (eqb src1 literalWord) a (cond (eqb src2 literalWord) b Operand.Nil)
+
+  pub first-source : sourceAt oneLiteral src1 ≡ sourceAt a src1
+  unfolding sourceAt
+  first-source = go (eqb src1 literalWord) (eqb src2 literalWord) (register (registerAt src1))
+    where
+      go : (x y : Bool) (r : Source) → cond x (constant (cond x a (cond y b Operand.Nil))) r ≡ cond x (constant a) r
+      go true y r = refl
+      go false y r = refl
+
+  pub second-source : eqb src1 literalWord && eqb src2 literalWord ≡ false → sourceAt oneLiteral src2 ≡ sourceAt b src2
+  unfolding sourceAt
+  second-source = go (eqb src1 literalWord) (eqb src2 literalWord) (register (registerAt src2))
+    where
+      go : (x y : Bool) (r : Source) → x && y ≡ false → cond y (constant (cond x a (cond y b Operand.Nil))) r ≡ cond y (constant b) r
+      go true true r h = absurd (true≢false h)
+      go true false r h = refl
+      go false true r h = refl
+      go false false r h = refl
 
 module _ (t : Tree) where
   -- a node whose word is a literal's is a literal, by what the program asked and read
@@ -170,17 +131,13 @@ module _ (t : Tree) where
       go true l = l
       go false l = absurd (no-register (literal (node t n)) _ m₁ (literal-source (node t n)) (subst GivesRegister is (expression-register t n l dest m)))
 
-  literal-expression : (n : ℕ) → isLiteral (node t n) ≡ true → (dest : Dest) → lowerMaterializing (lowerExpression freeTemp t n) dest ≡ loadConstant (literal (node t n)) dest
-  unfolding lowerExpression expressionBelow
-  literal-expression n l dest = fun-ext (λ m. literal-loaded t (λ k e. expressionBelow freeTemp t n k e) (λ k. jumpBelow freeTemp t n k) n (node t n) l dest m)
-
   module _ (operator : BinaryOp) (left right : ℕ) (d : Register) (m : Made) (v w : ℕ) {r : Outcome Operand} where
     -- "Two literals are both loaded."
     pub then-literals : (v ≡ literalWord) × (w ≡ literalWord) → isLiteral (node t left) ≡ true → isLiteral (node t right) ≡ true → settled (twoLiterals t operator left right d m) ≡ r →
         settled (binarySources freeTemp t (lowerExpression freeTemp t) operator left right d (source (operandAt (node t left) v)) (source (operandAt (node t right) w)) m) ≡ r
     unfolding operandAt binarySources twoLiterals
     then-literals both l l′ q =
-        rw (both .0, both .1, literal-source (node t left), literal-source (node t right), literal-expression left l Dest.Any, literal-expression right l′ Dest.Any) q
+        rw (both .0, both .1, literal-source (node t left), literal-source (node t right), literal-materialized t left l Dest.Any, literal-materialized t right l′ Dest.Any) q
 
     -- else the instruction, and then the registers given back
     pub then-operator : eqb v literalWord && eqb w literalWord ≡ false →
@@ -193,9 +150,3 @@ module _ (t : Tree) where
           source-operand (node t right) w,
           binary-given-back t (lowerExpression freeTemp t) operator left right d _ _ (both-constant (literal (node t left)) (literal (node t right)) v w ∙ h) m,
         ) q
-
-  -- an answer that is a refusal or the register d is the same operand of any node
-  pub register-operand : (n : Node) (m : Made) (d a : ℕ) → d < any → DestOrRefusal d a → seen t (λ w. Operand.Register (registerAt w)) m a ≡ seen t (operandAt n) m a
-  unfolding isRefusal
-  register-operand n m d a few (inl h) = seen-stopped t _ m a (le-leb refusalStart a h) ∙ sym (seen-stopped t (operandAt n) m a (le-leb refusalStart a h))
-  register-operand n m d a few (inr e) = rw e (seen-word t (λ w. Operand.Register (registerAt w)) m d (omega (arith, few)) ∙ ended t n m d few)

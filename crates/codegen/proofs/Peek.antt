@@ -1,14 +1,14 @@
--- The laws by which a flat node that was tried is what the definition gives: with a register taken beforehand, which is kept only if it is the answer; with the
--- register given; and, of an operator, with the literal of one of its sources. Assumes nothing.
-use Prim.Native.Nat.{ℕ, zero, suc, _+_, _/_, _<_, _≤_}
+-- The laws by which a flat node that was tried is what the definition gives: with a register taken beforehand, which is kept only if it is the answer, and with the
+-- register given. Assumes nothing.
+use Prim.Native.Nat.{ℕ, _+_, _<_, _≤_}
 use native.Mathlib.Omega.{arith}
 use native.Mathlib.Decide.{decLt, ℕ-discrete}
 use mathlib.Core.Path.{_≡_, refl, sym, _∙_, ap, subst}
 use mathlib.Core.Logic.{_≢_, _⊎_, inl, inr}
-use mathlib.Core.Bool.{Bool, true, false, cond, _&&_, true≢false, false≢true}
+use mathlib.Core.Bool.{Bool, true, false, cond, false≢true}
 use mathlib.Core.List.{List}
 use lib.Dec.{leb, eqb}
-use lib.ListN.{length, getD}
+use lib.ListN.{length}
 use borrow.Author.Tests.{lt-ltb, le-ltb, le-leb, eq-eqb, ne-eqb, leb-true, leb-false}
 use Rattle.diagnostics.specs.declared.Refusal.{Refusal}
 use Rattle.diagnostics.specs.declared.Place.{Place}
@@ -21,7 +21,7 @@ use Rattle.environment.specs.Registers.{taken}
 use Rattle.environment.specs.Environment.{lookup}
 use Rattle.environment.proofs.Laws.{place-takes, refused, lookup-found}
 use Rattle.syntax.specs.declared.ast.Node.{Node}
-use Rattle.syntax.specs.Ast.{nodeKinds, nodeWord, nodeAt}
+use Rattle.syntax.specs.Ast.{nodeWord, nodeAt}
 use Rattle.runtime.specs.declared.operand.Operand.{Operand}
 use Rattle.lowering.specs.declared.Dest.{Dest}
 use Rattle.lowering.specs.declared.State.{State}
@@ -29,80 +29,22 @@ use Rattle.lowering.specs.Tree.{Tree, treeOf, node}
 use Rattle.lowering.specs.Checked.{Checked}
 use Rattle.lowering.specs.Walk.{Made, made, Outcome, ends, stops, Walk, bind, ret}
 use Rattle.lowering.specs.Steps.{withRegisters, allocateTemp, freeTemp, destination, loadConstant}
-use Rattle.lowering.specs.Literals.{isLiteral, literal}
-use Rattle.lowering.specs.Lower.{Source, source, register, constant, materialized, moved, named, lowerMaterializing, lowerNode, lowerExpression, lowerJumpIfFalse}
+use Rattle.lowering.specs.Literals.{literal}
+use Rattle.lowering.specs.Lower.{source, register, constant, materialized, moved, named, lowerMaterializing, lowerNode, lowerExpression, lowerJumpIfFalse}
 use Rattle.lowering.proofs.Bound.Lowering.{expression-at}
 use Rattle.lowering.proofs.Running.Steps.{Holds, fine, void, holds-ends, registersOf}
-use Rattle.lowering.proofs.Destinations.{EndsWith, GivesRegister, Stays, bind-bind, literal-source, literal-of, binary-any, expression-into, expression-register, node-kind}
+use Rattle.lowering.proofs.Destinations.{EndsWith, GivesRegister, Stays, bind-bind, literal-source, binary-any, expression-into, expression-register, node-kind}
 use Rattle.steps.specs.declared.answer.Emitted.{Emitted}
 use Rattle.steps.specs.Answers.{none, any, registerAt, numberAt, literalWord, operandAt, sourceAt, wordEnd, refusalStart, isRefusal, valueOf, isInner, refusalWord, namesNode, errorAt, settled, seen, counted, WordOrRefusal}
-use Rattle.steps.proofs.Chains.{got, then, stop, seen-given, seen-stopped, seen-word, seen-refusal, some-allocated, none-allocated}
-use Rattle.steps.proofs.Words.{registerAt-temporary, taken-number, source-operand, isRefusal-refusal, isInner-word, isInner-inner, valueOf-inner}
-use Rattle.codegen.specs.Ready.{InArena, wordOf}
+use Rattle.steps.proofs.Chains.{got, stop, seen-given, seen-stopped, seen-word, seen-refusal, some-allocated, none-allocated}
+use Rattle.steps.proofs.Words.{registerAt-temporary, taken-number, source-operand, isRefusal-refusal, isInner-inner, valueOf-inner}
+use Rattle.codegen.specs.Ready.{wordOf}
 use Rattle.codegen.specs.Kinds.{nameKind, binaryKind}
-use Rattle.codegen.specs.Flat.{Falling, isFlat, askOperand, askRegister, askInto, needing, flatNode}
-use Rattle.codegen.proofs.Walk.{no-literal}
-
--- ---- the sources of an operator
-
--- its operands are in the arena
-pub operands-inside : (nodes : List ℕ) (i : ℕ) {left right : ℕ} → Falling nodes × (InArena nodes i × (wordOf nodes i 0 ≡ binaryKind)) →
-    left ≡ wordOf nodes i 2 → right ≡ wordOf nodes i 3 → InArena nodes left × InArena nodes right
-operands-inside nodes i asked l r =
-    (omega (arith, l, asked .0 .left i (asked .1 .0) (asked .1 .1)), omega (arith, r, asked .0 .right i (asked .1 .0) (asked .1 .1)))
-
--- the literal of one of two sources is each one's, where not both are literals
-module _ (a b : Operand) (src1 src2 : ℕ) where
-  abbrev oneLiteral : Operand
-  oneLiteral = cond (eqb src1 literalWord) a (cond (eqb src2 literalWord) b Operand.Nil)
-
-  pub first-source : sourceAt oneLiteral src1 ≡ sourceAt a src1
-  unfolding sourceAt
-  first-source = go (eqb src1 literalWord) (eqb src2 literalWord) (register (registerAt src1))
-    where
-      go : (x y : Bool) (r : Source) → cond x (constant (cond x a (cond y b Operand.Nil))) r ≡ cond x (constant a) r
-      go true y r = refl
-      go false y r = refl
-
-  pub second-source : eqb src1 literalWord && eqb src2 literalWord ≡ false → sourceAt oneLiteral src2 ≡ sourceAt b src2
-  unfolding sourceAt
-  second-source = go (eqb src1 literalWord) (eqb src2 literalWord) (register (registerAt src2))
-    where
-      go : (x y : Bool) (r : Source) → x && y ≡ false → cond y (constant (cond x a (cond y b Operand.Nil))) r ≡ cond y (constant b) r
-      go true true r h = absurd (true≢false h)
-      go true false r h = refl
-      go false true r h = refl
-      go false false r h = refl
+use Rattle.codegen.specs.Flat.{isFlat, askOperand, askRegister, askInto, needing, flatNode}
+use Rattle.codegen.proofs.Walk.{is-literal, no-literal, literal-expression, literal-materialized, in-register}
+use Rattle.codegen.proofs.FlatNodes.{no-inner, literal-flat, literal-itself, name-flat, binary-flat}
 
 -- ---- the word of an answer
-
--- a literal is in no register
-never-register : (x : Operand) (m : Made) → source x ≡ constant x → GivesRegister (ends x m) → ⊥
-unfolding source GivesRegister
-never-register (Operand.Register r) m e g = let z : _≡_ {A = ℕ} 0 1 = cc in absurd (omega arith)
-never-register (Operand.Number x) m e g = g
-never-register (Operand.String symbol) m e g = g
-never-register (Operand.Boolean b) m e g = g
-never-register Operand.Nil m e g = g
-
-gives-register : (n : Node) (dest : Dest) (w : ℕ) (m : Made) → GivesRegister (ends (operandAt n w) m) → settled (materialized (source (operandAt n w)) dest m) ≡ ends (registerAt w) m
-unfolding operandAt source materialized settled
-gives-register n dest w m g = go (ℕ-discrete w literalWord)
-  where
-    go : Dec (w ≡ literalWord) → settled (materialized (source (operandAt n w)) dest m) ≡ ends (registerAt w) m
-    go (yes h) = absurd (never-register (literal n) m (literal-source n) (rw (eq-eqb w literalWord h) at g))
-    go (no h) = rw (ne-eqb w literalWord h)
-
--- an operand in a register, by what is seen of its word
-in-register : (t : Tree) (n : Node) (dest : Dest) (o : Outcome Operand) (m : Made) (a : ℕ) → GivesRegister o →
-    settled o ≡ seen t (operandAt n) m a → settled (bind o (λ src. materialized (source src) dest)) ≡ seen t registerAt m a
-in-register t n dest o m a g e = go (isRefusal a) refl
-  where
-    go : (b : Bool) → isRefusal a ≡ b → settled (bind o (λ src. materialized (source src) dest)) ≡ seen t registerAt m a
-    go true h = stop t o (operandAt n) m a _ e registerAt h
-    go false h =
-        let is : o ≡ ends (operandAt n (valueOf a)) m = got o (operandAt n (valueOf a)) m (e ∙ seen-given t (operandAt n) m a h) in
-        then t o (operandAt n) m a _ e h (gives-register n dest (valueOf a) m (subst GivesRegister is g) ∙ sym (seen-given t registerAt m a h))
 
 -- the word of a temporary is its number
 word-of : (n : Node) (w r : ℕ) → operandAt n w ≡ Operand.Register (Register.Temp r) → w ≡ r
@@ -134,12 +76,6 @@ module _ (k : ℕ) {b : Bool} (told : b ≡ leb k binaryKind) where
 
   pub not-simple : b ≡ false → binaryKind ≤ k
   not-simple left = omega (arith, leb-false k binaryKind (sym told ∙ left))
-
--- a word and a refusal leave nothing to the walk
-word-not-inner : (a : ℕ) → WordOrRefusal a → isInner a ≡ false
-unfolding isInner
-word-not-inner a (inl r) = ne-eqb (a / wordEnd) 1 (omega arith)
-word-not-inner a (inr l) = isInner-word a l
 
 -- a node that is left to the walk, by the answer
 module _ (a i : ℕ) (told : a ≡ wordEnd + i) (small : i < wordEnd) where
@@ -173,7 +109,7 @@ module _ (nodes : List ℕ) (i : ℕ) (f : Emitted) {n p : ℕ} {A : Type 0} (sm
   left-over word h = go (isFlat nodes i) refl
     where
       go : (b : Bool) → isFlat nodes i ≡ b → (f ≡ record { instructions = n; constants = p; answer = wordEnd + i }) × A × (valueOf (f .answer) ≡ i) × (binaryKind ≤ wordOf nodes i 0)
-      go true e = absurd (false≢true (sym (word-not-inner (f .answer) (word e)) ∙ h))
+      go true e = absurd (false≢true (sym (no-inner (f .answer) (word e)) ∙ h))
       go false e = let same = left e in (same .0, same .1, inner-value (f .answer) i (ap (λ x. x .answer) (same .0)) small, later-kind e)
 
 -- ---- a register taken beforehand
@@ -255,15 +191,6 @@ module _ (t : Tree) (n : Node) (m m′ : Made) (a d : ℕ) {after : Taken} (took
 
 -- ---- a flat node by its kind
 
--- a kind below 4 is a literal
-early-kind : (k a b c : ℕ) → k < nameKind → isLiteral (getD nodeKinds k (λ x y z. Node.Nil) a b c) ≡ true
-unfolding isLiteral
-early-kind zero a b c h = refl
-early-kind (suc (zero)) a b c h = refl
-early-kind (suc (suc (zero))) a b c h = refl
-early-kind (suc (suc (suc (zero)))) a b c h = refl
-early-kind (suc (suc (suc (suc (k))))) a b c h = absurd (omega (arith, h))
-
 -- what is in a register is found there again
 loaded : (t : Tree) (n : Node) (o : Outcome Register) (m : Made) (a : ℕ) → settled (bind o (λ r. ret (Operand.Register r))) ≡ seen t (operandAt n) m a →
     settled o ≡ seen t registerAt m a
@@ -293,53 +220,12 @@ operand-into e (ends (Operand.Boolean b) m) g h = absurd g
 operand-into e (ends Operand.Nil m) g h = absurd g
 operand-into e (stops f m) g h = tt
 
-module _ {t : Tree} (checked : Checked t) (i : ℕ) where
-  -- a literal: its operand, or its value loaded
-  module _ (early : nodeWord (t .nodes) i 0 < nameKind) where
-    literal-kind : isLiteral (node t i) ≡ true
-    literal-kind = rw (node-kind t i (nodeWord (t .nodes) i 0) refl) (early-kind (nodeWord (t .nodes) i 0) _ _ _ early)
-
-    literal-expression : (dest : Dest) (m : Made) → lowerExpression freeTemp t i dest m ≡ ends (literal (node t i)) m
-    literal-expression dest m = rw (expression-at checked i dest, literal-of t (lowerExpression freeTemp t) (lowerJumpIfFalse freeTemp t) i (node t i) literal-kind dest)
-
-    literal-materialized : (dest : Dest) (m : Made) → lowerMaterializing (lowerExpression freeTemp t i) dest m ≡ loadConstant (literal (node t i)) dest m
-    unfolding lowerMaterializing bind materialized
-    literal-materialized dest m = rw (literal-expression dest m, literal-source (node t i))
-
-    literal-taken : (m : Made) → lowerMaterializing (lowerExpression freeTemp t i) Dest.Any m ≡ bind (allocateTemp m) (λ e. loadConstant (literal (node t i)) (Dest.To e))
-    unfolding loadConstant destination bind
-    literal-taken m = literal-materialized Dest.Any m
-
-    literal-flat : (asked d : ℕ) → asked ≢ askOperand → (m : Made) →
-        flatNode t asked d i m ≡ needing d (λ m₁. bind (loadConstant (literal (node t i)) (Dest.To (registerAt d)) m₁) (λ r. ret (Operand.Register r))) m
-    unfolding flatNode
-    literal-flat asked d q m = rw (lt-ltb (nodeWord (t .nodes) i 0) nameKind early, ne-eqb asked askOperand q)
-
-  -- a name
-  name-flat : nodeWord (t .nodes) i 0 ≡ nameKind → (asked d : ℕ) (m : Made) →
-      flatNode t asked d i m ≡ lowerExpression freeTemp t i (cond (eqb asked askInto) (Dest.To (registerAt d)) Dest.Any) m
-  unfolding flatNode
-  name-flat kind asked d m = rw kind
-
-  -- an operator
-  module _ (kind : nodeWord (t .nodes) i 0 ≡ binaryKind) where
-    binary-flat : (asked d : ℕ) (m : Made) → flatNode t asked d i m ≡ needing d (lowerExpression freeTemp t i (Dest.To (registerAt d))) m
-    unfolding flatNode
-    binary-flat asked d m = rw kind
-
-    binary-taken : (m : Made) → lowerExpression freeTemp t i Dest.Any m ≡ bind (allocateTemp m) (λ e. lowerExpression freeTemp t i (Dest.To e))
-    binary-taken m =
-        rw (expression-at checked i Dest.Any)
-        (simp (expression-at checked i, node-kind t i binaryKind kind) (binary-any t (lowerExpression freeTemp t) (lowerJumpIfFalse freeTemp t) i _ _ _ m))
-
-  -- a name or an operator is no literal
-  no-literal-later : nameKind ≤ nodeWord (t .nodes) i 0 → isLiteral (node t i) ≡ false
-  unfolding isLiteral
-  no-literal-later later = go (ℕ-discrete (nodeWord (t .nodes) i 0) nameKind)
-    where
-      go : Dec (nodeWord (t .nodes) i 0 ≡ nameKind) → isLiteral (node t i) ≡ false
-      go (yes e) = rw (node-kind t i nameKind e)
-      go (no h) = no-literal checked i (omega arith)
+-- an operator takes a register, and then it is as if that one was given
+binary-taken : {t : Tree} → Checked t → (i : ℕ) → nodeWord (t .nodes) i 0 ≡ binaryKind → (m : Made) →
+    lowerExpression freeTemp t i Dest.Any m ≡ bind (allocateTemp m) (λ e. lowerExpression freeTemp t i (Dest.To e))
+binary-taken {t} checked i kind m =
+    rw (expression-at checked i Dest.Any)
+    (simp (expression-at checked i, node-kind t i binaryKind kind) (binary-any t (lowerExpression freeTemp t) (lowerJumpIfFalse freeTemp t) i _ _ _ m))
 
 -- in the register given
 pub flat-into : {t : Tree} → Checked t → (i d : ℕ) (m m′ : Made) (a : ℕ) → nodeWord (t .nodes) i 0 ≤ binaryKind → d < any →
@@ -350,18 +236,18 @@ flat-into {t} checked i d m m′ a simple few tried = go (decLt (nodeWord (t .no
   where
     operand : nameKind ≤ nodeWord (t .nodes) i 0 → Dec (nodeWord (t .nodes) i 0 ≡ nameKind) →
         settled (lowerExpression freeTemp t i (Dest.To (registerAt d)) m) ≡ seen t (operandAt (node t i)) m′ a
-    operand later (yes e) = rw (name-flat checked i e askInto d m) at tried
-    operand later (no h) = rw (binary-flat checked i (omega arith) askInto d m, ne-eqb d none (omega arith)) at tried
+    operand later (yes e) = rw (name-flat t askInto d i m e) at tried
+    operand later (no h) = rw (binary-flat t askInto d i m (omega arith), ne-eqb d none (omega arith)) at tried
 
     go : Dec (nodeWord (t .nodes) i 0 < nameKind) → settled (lowerMaterializing (lowerExpression freeTemp t i) (Dest.To (registerAt d)) m) ≡ seen t registerAt m′ a
     go (yes early) =
-        rw (literal-materialized checked i early (Dest.To (registerAt d)) m)
-        (loaded t (node t i) (loadConstant (literal (node t i)) (Dest.To (registerAt d)) m) m′ a
-        (rw (literal-flat checked i early askInto d (omega arith) m, ne-eqb d none (omega arith)) at tried))
+        ap (λ w. settled (w m)) (literal-materialized t i (is-literal t i early) (Dest.To (registerAt d)))
+        ∙ (loaded t (node t i) (loadConstant (literal (node t i)) (Dest.To (registerAt d)) m) m′ a
+        (rw (literal-flat t askInto d i m early (omega arith), ne-eqb d none (omega arith)) at tried))
     go (no h) =
         let later : nameKind ≤ nodeWord (t .nodes) i 0 = omega arith in
         in-register t (node t i) (Dest.To (registerAt d)) (lowerExpression freeTemp t i (Dest.To (registerAt d)) m) m′ a
-        (expression-register t i (no-literal-later checked i later) (Dest.To (registerAt d)) m) (operand later (ℕ-discrete (nodeWord (t .nodes) i 0) nameKind))
+        (expression-register t i (no-literal checked i later) (Dest.To (registerAt d)) m) (operand later (ℕ-discrete (nodeWord (t .nodes) i 0) nameKind))
 
 -- with no destination, where d is the register taken beforehand
 module _ {t : Tree} (checked : Checked t) (i asked : ℕ) (m m′ : Made) (a d : ℕ) {after : Taken} (took : after ≡ taken (registersOf m)) (number : d ≡ numberAt (after .place))
@@ -384,35 +270,36 @@ module _ {t : Tree} (checked : Checked t) (i asked : ℕ) (m m′ : Made) (a d :
       go : Dec (nodeWord (t .nodes) i 0 ≡ nameKind) → settled (lowerExpression freeTemp t i Dest.Any m) ≡ seen t (operandAt (node t i)) (keeping m (after .set) d a m′) a
       go (yes e) =
           stays t (node t i) m m′ a d took number (lowerExpression freeTemp t i Dest.Any m) (name-stays e)
-          (rw (name-flat checked i e asked d m, ne-eqb asked askInto q) at (tried (registersOf m)))
+          (rw (name-flat t asked d i m e, ne-eqb asked askInto q) at (tried (registersOf m)))
       go (no h) =
           let kind : nodeWord (t .nodes) i 0 ≡ binaryKind = omega arith in
           let into : (e : Register) (m₁ : Made) → EndsWith (Operand.Register e) (lowerExpression freeTemp t i (Dest.To e) m₁) =
-          λ e m₁. operand-into e (lowerExpression freeTemp t i (Dest.To e) m₁) (expression-register t i (no-literal-later checked i later) (Dest.To e) m₁) (expression-into t i e m₁) in
+          λ e m₁. operand-into e (lowerExpression freeTemp t i (Dest.To e) m₁) (expression-register t i (no-literal checked i later) (Dest.To e) m₁) (expression-into t i e m₁) in
           rw (binary-taken checked i kind m)
           (takes t (node t i) m m′ a d took number (λ e. lowerExpression freeTemp t i (Dest.To e)) into word
-          (λ rs. rw (binary-flat checked i kind asked d (withRegisters rs m)) at (tried rs)))
+          (λ rs. rw (binary-flat t asked d i (withRegisters rs m) kind) at (tried rs)))
 
   -- a literal is its operand
   literal-operand : nodeWord (t .nodes) i 0 < nameKind → asked ≡ askOperand →
       settled (lowerExpression freeTemp t i Dest.Any m) ≡ seen t (operandAt (node t i)) (keeping m (after .set) d a m′) a
-  unfolding flatNode Stays settled
+  unfolding Stays settled
   literal-operand early q =
-      rw (literal-expression checked i early Dest.Any m)
+      rw (literal-expression t i (is-literal t i early) Dest.Any)
       (stays t (node t i) m m′ a d took number (ends (literal (node t i)) m) (fine (rw (literal-source (node t i)) tt))
-      (rw (lt-ltb (nodeWord (t .nodes) i 0) nameKind early, eq-eqb asked askOperand q) at (tried (registersOf m))))
+      (rw (literal-itself t asked d i m early q) at (tried (registersOf m))))
 
   -- or is loaded
   literal-register : nodeWord (t .nodes) i 0 < nameKind → asked ≢ askOperand →
       settled (lowerMaterializing (lowerExpression freeTemp t i) Dest.Any m) ≡ seen t registerAt (keeping m (after .set) d a m′) a
+  unfolding loadConstant destination bind
   literal-register early q =
       let load : Register → Walk Register = λ e. loadConstant (literal (node t i)) (Dest.To e) in
-      let into : (e : Register) (m₁ : Made) → EndsWith e (load e m₁) = λ e m₁. rw (literal-materialized checked i early (Dest.To e) m₁) at (expression-into t i e m₁) in
-      rw (literal-taken checked i early m)
+      let into : (e : Register) (m₁ : Made) → EndsWith e (load e m₁) = λ e m₁. rw (literal-materialized t i (is-literal t i early) (Dest.To e)) at (expression-into t i e m₁) in
+      rw (literal-materialized t i (is-literal t i early) Dest.Any)
       (loaded t (node t i) (bind (allocateTemp m) load) (keeping m (after .set) d a m′) a
       (ap settled (bind-bind (allocateTemp m) load (λ r. ret (Operand.Register r)))
       ∙ takes t (node t i) m m′ a d took number (λ e m₁. bind (load e m₁) (λ r. ret (Operand.Register r))) (λ e m₁. answered-into e (load e m₁) (into e m₁)) word
-      (λ rs. rw (literal-flat checked i early asked d q (withRegisters rs m)) at (tried rs))))
+      (λ rs. rw (literal-flat t asked d i (withRegisters rs m) early q) at (tried rs))))
 
   flat-operand : asked ≡ askOperand →
       settled (lowerExpression freeTemp t i Dest.Any m) ≡ seen t (operandAt (node t i)) (keeping m (after .set) d a m′) a
@@ -433,7 +320,7 @@ module _ {t : Tree} (checked : Checked t) (i asked : ℕ) (m m′ : Made) (a d :
       go (no h) =
           let later : nameKind ≤ nodeWord (t .nodes) i 0 = omega arith in
           in-register t (node t i) Dest.Any (lowerExpression freeTemp t i Dest.Any m) (keeping m (after .set) d a m′) a
-          (expression-register t i (no-literal-later checked i later) Dest.Any m) (later-operand later (omega arith))
+          (expression-register t i (no-literal checked i later) Dest.Any m) (later-operand later (omega arith))
 
 -- the same, by what `lower_flat` ensures, and by the registers that are held afterwards
 module _ (nodes names code code′ pool pool′ : List ℕ) (i asked d : ℕ) (s : State) (rs : RegisterSet) (f : Emitted) {after : Taken} {A : Type 0} (took : after ≡ taken (s .registers))

@@ -2,7 +2,7 @@
 use Prim.Native.Nat.{ℕ, zero, suc, _+_, _%_, _<_, _≤_}
 use native.Mathlib.Omega.{arith}
 use native.Mathlib.Decide.{decLt, ℕ-discrete}
-use mathlib.Core.Path.{_≡_, refl, sym, _∙_}
+use mathlib.Core.Path.{_≡_, refl, sym, _∙_, ap}
 use mathlib.Core.Logic.{_≢_, inl, inr}
 use mathlib.Core.Bool.{Bool, true, false, cond, _||_, false≢true}
 use mathlib.Core.List.{List}
@@ -122,7 +122,7 @@ local-word (inl e) h = absurd (h e)
 local-word (inr l) h = l
 
 -- a destination is a local if its word is the local's
-same-word : (a b : ℕ) → a < any → 256 ≤ b → b < any → sameRegister (registerAt a) (registerAt b) ≡ eqb a b
+pub same-word : (a b : ℕ) → a < any → 256 ≤ b → b < any → sameRegister (registerAt a) (registerAt b) ≡ eqb a b
 unfolding registerAt sameRegister
 same-word a b h low high = rw (le-ltb b 256 low) (go (decLt a 256))
   where
@@ -144,10 +144,14 @@ another-small dest w h another = go (ℕ-discrete dest any)
 
 module _ (t : Tree) (i : ℕ) (m : Made) where
   -- a name is lowered by what was found of it
+  pub named-at : (dest : Dest) {f : Found} → nodeWord (t .nodes) i 0 ≡ nameKind → f ≡ lookup (t .names) (length (t .names)) (nodeWord (t .nodes) i 1) →
+      lowerExpression freeTemp t i dest m ≡ named t i f dest m
+  unfolding lowerExpression expressionBelow lowerNode
+  named-at dest kind found = rw (node-kind t i nameKind kind, ← found)
+
   pub name-of : (dest : Dest) {f : Found} {r : Outcome Operand} → nodeWord (t .nodes) i 0 ≡ nameKind → f ≡ lookup (t .names) (length (t .names)) (nodeWord (t .nodes) i 1) →
       settled (named t i f dest m) ≡ r → settled (lowerExpression freeTemp t i dest m) ≡ r
-  unfolding lowerExpression expressionBelow lowerNode
-  name-of dest kind found q = rw (node-kind t i nameKind kind, ← found) q
+  name-of dest kind found q = ap settled (named-at dest kind found) ∙ q
 
   -- it is not declared
   pub name-undeclared : (dest : Dest) (gives : ℕ → Operand) {w : ℕ} → i < wordEnd → w ≡ none → settled (named t i (foundAt w) dest m) ≡ seen t gives m (refusalWord Refusal.Undeclared i)

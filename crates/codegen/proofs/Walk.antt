@@ -1,40 +1,33 @@
 -- The laws by which a function of the walk does what its clause of the definition says: what a node's kind gives, a child that was tried and then walked, a
 -- register given back, and the end of an arm. Assumes nothing.
-use Prim.Native.Nat.{ℕ, zero, suc, _+_, _*_, _-_, _/_, _<_, _≤_}
+use Prim.Native.Nat.{ℕ, zero, suc, _-_, _<_, _≤_}
 use native.Mathlib.Omega.{arith}
 use native.Mathlib.Decide.{ℕ-discrete}
-use mathlib.Core.Path.{_≡_, refl, sym, _∙_, ap, subst}
-use mathlib.Core.Logic.{_≢_}
-use mathlib.Core.Bool.{Bool, true, false, false≢true}
+use mathlib.Core.Path.{_≡_, refl, sym, _∙_, ap, subst, fun-ext}
+use mathlib.Core.Bool.{Bool, true, false}
 use mathlib.Core.List.{List}
-use lib.ListN.{length, getD}
+use lib.ListN.{getD}
 use borrow.Author.Tests.{eq-eqb, ne-eqb}
-use Rattle.words.specs.Words.{words}
-use Rattle.words.specs.Records.{capacity}
 use Rattle.environment.specs.declared.Register.{Register}
-use Rattle.environment.specs.Environment.{freed}
 use Rattle.environment.specs.Registers.{givenBack}
 use Rattle.syntax.specs.declared.ast.Node.{Node}
-use Rattle.syntax.specs.Ast.{nodeKinds, nodeWord, nodeWidth, absent}
+use Rattle.syntax.specs.Ast.{nodeKinds, nodeWord}
 use Rattle.runtime.specs.declared.operand.Operand.{Operand}
 use Rattle.lowering.specs.declared.Dest.{Dest}
-use Rattle.lowering.specs.declared.State.{State}
 use Rattle.lowering.specs.Tree.{Tree, treeOf, node}
 use Rattle.lowering.specs.Checked.{Checked, Below}
-use Rattle.lowering.specs.Walk.{Made, made, Outcome, ends, stops, Walk, bind, ret}
-use Rattle.lowering.specs.Steps.{freeTemp, withRegisters, withCode, withOffset, patchToNext}
+use Rattle.lowering.specs.Walk.{Made, Outcome, ends, Walk, bind, ret}
+use Rattle.lowering.specs.Steps.{freeTemp, loadConstant, withRegisters, withCode, withOffset, patchToNext}
 use Rattle.lowering.specs.Literals.{isLiteral, literal}
-use Rattle.lowering.specs.Lower.{Source, source, register, constant, materialized, lowerMaterializing, lowerNode, lowerExpression, lowerJumpIfFalse}
+use Rattle.lowering.specs.Lower.{source, constant, materialized, lowerMaterializing, lowerNode, expressionBelow, jumpBelow, lowerExpression, lowerJumpIfFalse}
 use Rattle.lowering.proofs.Questions.Checked.{kind-word, checked-at, checked-below}
 use Rattle.lowering.proofs.Bound.Lowering.{expression-at}
-use Rattle.lowering.proofs.Destinations.{EndsWith, ends-with, GivesRegister, expression-into, expression-register, freeSource, node-kind}
-use Rattle.steps.specs.declared.answer.Lowered.{Lowered}
-use Rattle.steps.specs.Answers.{any, registerAt, destOf, literalWord, operandAt, sourceAt, settled, seen, isRefusal, isInner, valueOf, wordEnd}
-use Rattle.steps.proofs.Chains.{got, then, stop, then-done, seen-given, seen-stopped, seen-word}
+use Rattle.lowering.proofs.Destinations.{ends-with, GivesRegister, expression-into, expression-register, literal-source, literal-of, literal-loaded, freeSource, node-kind}
+use Rattle.steps.specs.Answers.{any, registerAt, destOf, literalWord, operandAt, sourceAt, settled, seen, isRefusal, isInner, valueOf}
+use Rattle.steps.proofs.Chains.{got, then, stop, seen-given, seen-word}
 use Rattle.steps.proofs.Words.{freed-word, freed-literal, destOf-any, destOf-to}
-use Rattle.codegen.specs.Ready.{InArena, wordOf}
 use Rattle.codegen.specs.Kinds.{nameKind, binaryKind, blockKind}
-use Rattle.codegen.specs.Flat.{Falling, Untouched}
+use Rattle.codegen.specs.Flat.{Falling}
 
 -- ---- a node by its kind
 
@@ -59,14 +52,22 @@ falling nodes list names checked =
       tail = λ i h kind. below-of checked i blockKind kind;
     }
 
--- a kind from 5 on is no literal
-later-kind : (k a b c : ℕ) → binaryKind ≤ k → k ≤ 14 → isLiteral (getD nodeKinds k (λ x y z. Node.Nil) a b c) ≡ false
+-- a kind below the name's is a literal, and any other is none
+literal-kind : (k a b c : ℕ) → k < nameKind → isLiteral (getD nodeKinds k (λ x y z. Node.Nil) a b c) ≡ true
+unfolding isLiteral
+literal-kind zero a b c h = refl
+literal-kind (suc (zero)) a b c h = refl
+literal-kind (suc (suc (zero))) a b c h = refl
+literal-kind (suc (suc (suc (zero)))) a b c h = refl
+literal-kind (suc (suc (suc (suc (k))))) a b c h = absurd (omega (arith, h))
+
+later-kind : (k a b c : ℕ) → nameKind ≤ k → k ≤ 14 → isLiteral (getD nodeKinds k (λ x y z. Node.Nil) a b c) ≡ false
 unfolding isLiteral
 later-kind zero a b c h l = absurd (omega (arith, h))
 later-kind (suc (zero)) a b c h l = absurd (omega (arith, h))
 later-kind (suc (suc (zero))) a b c h l = absurd (omega (arith, h))
 later-kind (suc (suc (suc (zero)))) a b c h l = absurd (omega (arith, h))
-later-kind (suc (suc (suc (suc (zero))))) a b c h l = absurd (omega (arith, h))
+later-kind (suc (suc (suc (suc (zero))))) a b c h l = refl
 later-kind (suc (suc (suc (suc (suc (zero)))))) a b c h l = refl
 later-kind (suc (suc (suc (suc (suc (suc (zero))))))) a b c h l = refl
 later-kind (suc (suc (suc (suc (suc (suc (suc (zero)))))))) a b c h l = refl
@@ -79,59 +80,53 @@ later-kind (suc (suc (suc (suc (suc (suc (suc (suc (suc (suc (suc (suc (suc (zer
 later-kind (suc (suc (suc (suc (suc (suc (suc (suc (suc (suc (suc (suc (suc (suc (zero))))))))))))))) a b c h l = refl
 later-kind (suc (suc (suc (suc (suc (suc (suc (suc (suc (suc (suc (suc (suc (suc (suc (k)))))))))))))))) a b c h l = absurd (omega (arith, l))
 
-pub no-literal : {t : Tree} → Checked t → (i : ℕ) → binaryKind ≤ nodeWord (t .nodes) i 0 → isLiteral (node t i) ≡ false
+pub is-literal : (t : Tree) (i : ℕ) → nodeWord (t .nodes) i 0 < nameKind → isLiteral (node t i) ≡ true
+is-literal t i h = rw (node-kind t i (nodeWord (t .nodes) i 0) refl) (literal-kind (nodeWord (t .nodes) i 0) _ _ _ h)
+
+pub no-literal : {t : Tree} → Checked t → (i : ℕ) → nameKind ≤ nodeWord (t .nodes) i 0 → isLiteral (node t i) ≡ false
 no-literal {t} checked i h = rw (node-kind t i (nodeWord (t .nodes) i 0) refl) (later-kind (nodeWord (t .nodes) i 0) _ _ _ h (kind-word (checked-at checked i)))
+
+-- a literal is its operand, and its value in a register is loaded
+module _ (t : Tree) (i : ℕ) (l : isLiteral (node t i) ≡ true) (dest : Dest) where
+  pub literal-expression : lowerExpression freeTemp t i dest ≡ ret (literal (node t i))
+  unfolding lowerExpression expressionBelow
+  literal-expression = literal-of t (λ n e. expressionBelow freeTemp t i n e) (λ n. jumpBelow freeTemp t i n) i (node t i) l dest
+
+  pub literal-materialized : lowerMaterializing (lowerExpression freeTemp t i) dest ≡ loadConstant (literal (node t i)) dest
+  unfolding lowerExpression expressionBelow
+  literal-materialized = fun-ext (λ m. literal-loaded t (λ n e. expressionBelow freeTemp t i n e) (λ n. jumpBelow freeTemp t i n) i (node t i) l dest m)
 
 -- ---- a child
 
--- a node that is no literal is in a register, by what is seen of its word
-gives-register : (n : Node) (dest : Dest) (w : ℕ) (m : Made) → isLiteral n ≡ false → GivesRegister (ends (operandAt n w) m) →
-    settled (materialized (source (operandAt n w)) dest m) ≡ ends (registerAt w) m
-unfolding operandAt GivesRegister source materialized settled literal isLiteral
-gives-register n dest w m l g = go n (ℕ-discrete w literalWord) l g
+-- a constant is in no register
+pub no-register : (x c : Operand) (m : Made) → source x ≡ constant c → GivesRegister (ends x m) → ⊥
+unfolding source GivesRegister
+no-register (Operand.Register r) c m e g = let z : _≡_ {A = ℕ} 0 1 = cc in omega arith
+no-register (Operand.Number x) c m e g = g
+no-register (Operand.String symbol) c m e g = g
+no-register (Operand.Boolean b) c m e g = g
+no-register Operand.Nil c m e g = g
+
+-- an operand in a register, by what is seen of its word
+gives-register : (n : Node) (dest : Dest) (w : ℕ) (m : Made) → GivesRegister (ends (operandAt n w) m) → settled (materialized (source (operandAt n w)) dest m) ≡ ends (registerAt w) m
+unfolding operandAt source materialized settled
+gives-register n dest w m g = go (ℕ-discrete w literalWord)
   where
-    nil : (n : Node) → isLiteral n ≡ false → literal n ≡ Operand.Nil
-    nil (Node.Number low high) h = absurd (false≢true (sym h))
-    nil (Node.String symbol) h = absurd (false≢true (sym h))
-    nil (Node.Boolean b) h = absurd (false≢true (sym h))
-    nil Node.Nil h = absurd (false≢true (sym h))
-    nil (Node.Identifier symbol) h = refl
-    nil (Node.Binary operator left right) h = refl
-    nil (Node.Unary operator operand) h = refl
-    nil (Node.LogicalNot operand) h = refl
-    nil (Node.LogicalAnd left right) h = refl
-    nil (Node.LogicalOr left right) h = refl
-    nil (Node.If condition thenBranch elseBranch) h = refl
-    nil (Node.Block tail) h = refl
-    nil (Node.FunctionCall callee first count) h = refl
-    nil (Node.PropertyAccess object property) h = refl
-    nil (Node.Map first count) h = refl
+    go : Dec (w ≡ literalWord) → settled (materialized (source (operandAt n w)) dest m) ≡ ends (registerAt w) m
+    go (yes h) = absurd (no-register (literal n) (literal n) m (literal-source n) (rw (eq-eqb w literalWord h) at g))
+    go (no h) = rw (ne-eqb w literalWord h)
 
-    go : (n : Node) → Dec (w ≡ literalWord) → isLiteral n ≡ false → GivesRegister (ends (operandAt n w) m) → settled (materialized (source (operandAt n w)) dest m) ≡ ends (registerAt w) m
-    go n (yes h) l g = absurd (rw (eq-eqb w literalWord h, nil n l) at g)
-    go n (no h) l g = rw (ne-eqb w literalWord h)
-
-pub in-register : (t : Tree) (n : Node) (dest : Dest) (o : Outcome Operand) (m : Made) (a : ℕ) → isLiteral n ≡ false → GivesRegister o →
+pub in-register : (t : Tree) (n : Node) (dest : Dest) (o : Outcome Operand) (m : Made) (a : ℕ) → GivesRegister o →
     settled o ≡ seen t (operandAt n) m a → settled (bind o (λ src. materialized (source src) dest)) ≡ seen t registerAt m a
-in-register t n dest o m a l g e = go (isRefusal a) refl
+in-register t n dest o m a g e = go (isRefusal a) refl
   where
     go : (b : Bool) → isRefusal a ≡ b → settled (bind o (λ src. materialized (source src) dest)) ≡ seen t registerAt m a
     go true h = stop t o (operandAt n) m a _ e registerAt h
     go false h =
         let is : o ≡ ends (operandAt n (valueOf a)) m = got o (operandAt n (valueOf a)) m (e ∙ seen-given t (operandAt n) m a h) in
-        then t o (operandAt n) m a _ e h (gives-register n dest (valueOf a) m l (subst GivesRegister is g) ∙ sym (seen-given t registerAt m a h))
+        then t o (operandAt n) m a _ e h (gives-register n dest (valueOf a) m (subst GivesRegister is g) ∙ sym (seen-given t registerAt m a h))
 
 -- ---- a child that was tried and, if it was not flat, walked
-
--- what the trial left is kept, or nothing was done: by the buffers' bytes and the state
-module _ (code code₁ code₂ pool pool₁ pool₂ marks marks₂ : List ℕ) (s : State) (f r : Lowered) where
-  pub kept : (isInner (f .answer) ≡ false → (r ≡ f) × ((words code₂ ≡ words code₁) × ((words pool₂ ≡ words pool₁) × (words marks₂ ≡ words marks)))) →
-      isInner (f .answer) ≡ false → (made (words code₂) (words pool₂) (words marks₂) (r .state) ≡ made (words code₁) (words pool₁) (words marks) (f .state)) × (r .answer ≡ f .answer)
-  kept done h = let same = done h in (rw (same .0, same .1 .0, same .1 .1 .0, same .1 .1 .1), ap (λ x. x .answer) (same .0))
-
-  pub untouched : {A : Type 0} → (isInner (f .answer) ≡ true → Untouched code code₁ pool pool₁ s f × A) → isInner (f .answer) ≡ true →
-      made (words code₁) (words pool₁) (words marks) s ≡ made (words code) (words pool) (words marks) s
-  untouched left h = let same = left h .0 in rw (same .1 .0, same .1 .1)
 
 -- from m the trial left m₁ and its answer a; the walk began at m₀, which is m if it began; now there is m₂ and the answer b
 module _ {t : Tree} (checked : Checked t) (n : ℕ) (m m₀ m₁ m₂ : Made) (a b : ℕ) (done : isInner a ≡ false → (m₂ ≡ m₁) × (b ≡ a)) (back : isInner a ≡ true → m₀ ≡ m) where
@@ -163,7 +158,7 @@ module _ {t : Tree} (checked : Checked t) (n : ℕ) (m m₀ m₁ m₂ : Made) (a
       by-trial
       (λ h. flat registerAt _ h (tried h))
       (λ h.
-      in-register t (node t n) Dest.Any (lowerExpression freeTemp t n Dest.Any m) m₂ b (no-literal checked n (kind h)) (expression-register t n (no-literal checked n (kind h)) Dest.Any m)
+      in-register t (node t n) Dest.Any (lowerExpression freeTemp t n Dest.Any m) m₂ b (expression-register t n (no-literal checked n (omega (arith, kind h))) Dest.Any m)
       (rw (same h, back h, destOf-any) at (walked h)))
 
   -- its value in d
@@ -177,8 +172,8 @@ module _ {t : Tree} (checked : Checked t) (n : ℕ) (m m₀ m₁ m₂ : Made) (a
     where
       into : isInner a ≡ true → settled (lowerMaterializing (lowerExpression freeTemp t (valueOf a)) (Dest.To (registerAt d)) m) ≡ seen t registerAt m₂ b
       into h =
-          let l = no-literal checked (valueOf a) (kind h) in
-          in-register t (node t (valueOf a)) (Dest.To (registerAt d)) (lowerExpression freeTemp t (valueOf a) (Dest.To (registerAt d)) m) m₂ b l
+          let l = no-literal checked (valueOf a) (omega (arith, kind h)) in
+          in-register t (node t (valueOf a)) (Dest.To (registerAt d)) (lowerExpression freeTemp t (valueOf a) (Dest.To (registerAt d)) m) m₂ b
           (expression-register t (valueOf a) l (Dest.To (registerAt d)) m) (rw (back h, destOf-to d (omega (arith, few))) at (walked h))
 
 -- ---- what follows a child, and the end of an arm

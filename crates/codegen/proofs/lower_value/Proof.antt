@@ -1,5 +1,5 @@
 -- `codegen::lower_value` meets its contract. Assumes nothing.
-use mathlib.Core.Path.{_≡_, refl, _∙_}
+use mathlib.Core.Path.{refl, _∙_}
 use native.Mathlib.Omega.{arith}
 use borrow.Author.Needs.{needs}
 use Rattle.runtime.specs.declared.instruction.Instruction.{Instruction}
@@ -9,7 +9,7 @@ use Rattle.lowering.specs.Result.{lowerRoot}
 use Rattle.steps.specs.Answers.{placeAt}
 use Rattle.steps.proofs.Chains.{then-by, stop-by, then-emitted, stop-emitted}
 use Rattle.codegen.proofs.Walk.{falling}
-use Rattle.codegen.proofs.Operands.{register-of}
+use Rattle.codegen.proofs.Children.{register-of}
 use Rattle.codegen.proofs.lower_value.Statement.{statement}
 use Rattle.codegen.proofs.lower_value.Tie as tie
 

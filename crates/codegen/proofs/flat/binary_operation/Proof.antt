@@ -1,14 +1,16 @@
 -- `codegen::flat::binary_operation` meets its contract: the literal of one of the two sources is each one's. Assumes nothing.
 use borrow.Author.Needs.{needs}
 use Rattle.lowering.specs.Tree.{treeOf}
-use Rattle.codegen.proofs.Peek.{operands-inside, first-source, second-source}
+use Rattle.codegen.proofs.Operands.{first-source, second-source}
+use Rattle.codegen.proofs.FlatNodes.{operands-inside}
 use Rattle.codegen.proofs.flat.binary_operation.Statement.{statement}
 use Rattle.codegen.proofs.flat.binary_operation.Tie as tie
 
 literal-of-requires : tie.Need-literal-of-requires
 literal-of-requires c κs =
     let at-left = c .before in
-    operands-inside _ _ (at-left .before .before .before .before .before .pre) (at-left .node-word2 .ensures) (c .node-word3 .ensures)
+    let asked = at-left .before .before .before .before .before .pre in
+    operands-inside (asked .0) _ _ _ (asked .1 .0) (asked .1 .1) (at-left .node-word2 .ensures) (c .node-word3 .ensures)
 
 returns : tie.Need-returns
 returns c =

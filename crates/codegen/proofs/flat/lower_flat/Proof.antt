@@ -1,22 +1,22 @@
 -- `codegen::flat::lower_flat` meets its contract: by the node's kind. Assumes nothing.
-use mathlib.Core.Path.{refl, sym, _∙_}
+use mathlib.Core.Path.{refl, sym, _∙_, ap}
 use mathlib.Core.Logic.{inr}
 use mathlib.Core.Bool.{true≢false}
 use native.Mathlib.Omega.{arith}
 use borrow.Author.Needs.{needs}
-use Rattle.steps.specs.Answers.{operandAt}
+use Rattle.steps.specs.Answers.{operandAt, settled}
 use Rattle.steps.proofs.Chains.{seen-word}
-use Rattle.codegen.proofs.FlatNodes.{loaded-operand, flat-leaf, flat-binary, flat-other, flat-operand, flat-loaded, flat-needing, answered}
+use Rattle.codegen.proofs.FlatNodes.{loaded-operand, flat-leaf, flat-binary, flat-other, literal-flat, literal-itself, binary-flat, answered}
 use Rattle.codegen.proofs.flat.lower_flat.Statement.{statement}
 use Rattle.codegen.proofs.flat.lower_flat.Tie as tie
 
 returns : tie.Need-returns
-unfolding operandAt
+unfolding operandAt settled
 returns c =
     let at-kind = c .before .before .before in
     let kind = rw (at-kind .node-word .ensures) at (c .before .before .if1 .taken) in
     rw (c .left-alone .ensures) (
-      (λ list rs n m checked h. flat-operand _ _ _ _ _ kind (c .before .if2 .taken) (sym (seen-word _ (operandAt _) _ _ (omega arith)))),
+      (λ list rs n m checked h. ap settled (literal-itself _ _ _ _ _ kind (c .before .if2 .taken)) ∙ sym (seen-word _ (operandAt _) _ _ (omega arith))),
       ((λ h. absurd (true≢false (sym (flat-leaf _ _ (omega (arith, kind))) ∙ h))), (λ h. inr (omega arith))),
     )
 
@@ -27,7 +27,7 @@ returns-2 c =
     let start = at-kind .before .before .before .before .before in
     let kind = rw (at-kind .node-word .ensures) at (at-loaded .before .before .before .before .if1 .taken) in
     let loaded = at-loaded .literal-into .ensures in (
-      (λ list rs n m checked h. flat-loaded _ _ _ _ _ kind (at-loaded .before .before .before .if2 .left) (loaded-operand _ _ _ _ _ _ _ (start .pre .1 .0) (loaded .1) (loaded .0 _ rs n m))),
+      (λ list rs n m checked h. ap settled (literal-flat _ _ _ _ _ kind (at-loaded .before .before .before .if2 .left)) ∙ loaded-operand _ _ _ _ _ _ _ (start .pre .1 .0) (loaded .1) (loaded .0 _ rs n m)),
       ((λ h. absurd (true≢false (sym (flat-leaf _ _ (omega (arith, kind))) ∙ h))), (λ h. answered _ _ (start .pre .1 .0) (loaded .1))),
     )
 
@@ -64,7 +64,7 @@ returns-5 c =
     let start = at-kind .before .before .before .before .before in
     let kind = sym (at-kind .node-word .ensures) ∙ at-binary .before .before .before .if4 .left in
     let ended = at-binary .binary-into .ensures in (
-      (λ list rs n m checked h. flat-needing _ _ _ _ _ kind (ended .0 list rs n m checked (sym (flat-binary _ _ kind) ∙ h))),
+      (λ list rs n m checked h. ap settled (binary-flat _ _ _ _ _ kind) ∙ ended .0 list rs n m checked (sym (flat-binary _ _ kind) ∙ h)),
       ((λ h. ended .1 .0 (sym (flat-binary _ _ kind) ∙ h)), (λ h. answered _ _ (start .pre .1 .0) (ended .1 .1 (sym (flat-binary _ _ kind) ∙ h)))),
     )
 

@@ -10,7 +10,8 @@ use Rattle.steps.specs.Answers.{operandAt, settled}
 use Rattle.steps.proofs.Words.{refusal-start}
 use Rattle.steps.proofs.Chains.{then-emitted, stop-emitted}
 use Rattle.codegen.proofs.Walk.{ended}
-use Rattle.codegen.proofs.FlatNodes.{flat-name-undeclared, flat-name-own, flat-name-moved, asked-into, name-below}
+use Rattle.codegen.proofs.FlatNodes.{flat-name-undeclared, flat-name-own, flat-name-moved, asked-into}
+use Rattle.codegen.proofs.Reading.{local-word}
 use Rattle.codegen.proofs.flat.name_into.Statement.{statement}
 use Rattle.codegen.proofs.flat.name_into.Tie as tie
 
@@ -30,9 +31,9 @@ returns-2 c =
     let start = at-name .before .before .before .before .before in
     let found = rw (at-name .before .node-word .ensures) at (at-name .find .ensures .0) in
     let declared = c .before .before .if1 .left in
-    let below = name-below (at-name .find .ensures .1) declared in
+    let below = local-word (at-name .find .ensures .1) declared .1 in
     rw (c .left-alone2 .ensures) (
-      (λ list p rs n m. flat-name-own _ _ (start .pre .1 .1 .0) _ found _ _ _ declared (c .before .if2 .taken) (ended _ _ _ _ below)),
+      (λ list p rs n m. flat-name-own _ _ (start .pre .1 .1 .0) _ found _ _ _ (at-name .find .ensures .1) declared (c .before .if2 .taken) (ended _ _ _ _ below)),
       inr (omega arith),
     )
 

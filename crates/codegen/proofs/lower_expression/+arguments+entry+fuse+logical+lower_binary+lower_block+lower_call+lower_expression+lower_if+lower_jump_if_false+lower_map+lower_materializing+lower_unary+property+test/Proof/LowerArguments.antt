@@ -17,8 +17,7 @@ use Rattle.lowering.specs.Lower.{lowerArguments, lowerExpression}
 use Rattle.steps.specs.Answers.{unitAt, settled}
 use Rattle.steps.proofs.Chains.{then-marked, stop-marked}
 use Rattle.codegen.specs.Ready.{wordOf}
-use Rattle.codegen.proofs.Children.{child-seen}
-use Rattle.codegen.proofs.Operands.{walk-requires}
+use Rattle.codegen.proofs.Children.{child-seen, walk-requires}
 use Rattle.codegen.proofs.Branches.{then-branch, stop-branch, by-answer, call-below, arguments-of, arguments-none, then-argument, marked, stop-unmarked}
 use Rattle.codegen.proofs.lower_expression.arguments.Reads as lower-arguments
 use Rattle.codegen.proofs.lower_expression.+arguments+entry+fuse+logical+lower_binary+lower_block+lower_call+lower_expression+lower_if+lower_jump_if_false+lower_map+lower_materializing+lower_unary+property+test.Lts-arguments as lower-arguments-lts

@@ -2,8 +2,8 @@
 use Prim.Native.Nat.{ℕ}
 use native.Mathlib.Omega.{arith}
 use mathlib.Core.Path.{refl, sym, _∙_}
+use mathlib.Core.Logic.{inr}
 use borrow.Author.Needs.{needs}
-use Rattle.runtime.specs.declared.operand.Operand.{Operand}
 use Rattle.lowering.specs.declared.Dest.{Dest}
 use Rattle.lowering.specs.Tree.{treeOf}
 use Rattle.lowering.specs.Lower.{lowerNode}
@@ -11,7 +11,9 @@ use Rattle.steps.specs.Answers.{registerAt, operandAt, settled}
 use Rattle.steps.proofs.Chains.{then, stop-by, then-by}
 use Rattle.codegen.specs.Kinds.{binaryKind}
 use Rattle.codegen.proofs.Walk.{below-of, expression-of, falling, then-freed-source, ended}
-use Rattle.codegen.proofs.Operands.{register-word, walk-requires, operand-of, both-literal, word-literal, then-literals, then-operator, register-operand}
+use Rattle.codegen.proofs.Children.{child-seen, walk-requires, operand-of}
+use Rattle.codegen.proofs.Operands.{register-word, both-literal, word-literal, then-literals, then-operator}
+use Rattle.codegen.proofs.FlatNodes.{given-operand}
 use Rattle.codegen.proofs.flat.binary_operation.Reads as binary-operation-reads
 use Rattle.codegen.proofs.flat.peek.Reads as peek-reads
 use Rattle.codegen.proofs.lower_expression.lower_binary.Reads as lower-binary
@@ -44,7 +46,7 @@ peek-requires t c κs =
     let start = at-words .before .before .before .before .before .before .before in
     let ready = start .pre .1 .0 .0 in
     let below = rw (← (at-words .node-word .ensures)) at (below-of (ready .0) _ binaryKind (start .pre .1 .1) .0) in
-    ((falling _ _ _ (ready .0), (ready .1 .0, omega (arith, below, ready .1 .1))), omega arith)
+    (child-seen _ _ _ _ _ ready below, omega arith)
 
 lower-materializing-requires : (t : ℕ) → lower-binary-lts.Need-lower-materializing-requires (calls t) (lower-binary-at t) lower-binary.Post
 lower-materializing-requires t c κs =
@@ -85,7 +87,7 @@ peek-requires-2 t c κs =
     let start = at-right .before .before .before .before .before .before .before .before in
     let ready = start .pre .1 .0 .0 in
     let below = rw (← (at-right .node-word2 .ensures)) at (below-of (ready .0) _ binaryKind (start .pre .1 .1) .1) in
-    ((falling _ _ _ (ready .0), (ready .1 .0, omega (arith, below, ready .1 .1))), omega arith)
+    (child-seen _ _ _ _ _ ready below, omega arith)
 
 lower-materializing-requires-2 : (t : ℕ) → lower-binary-lts.Need-lower-materializing-requires-2 (calls t) (lower-binary-at t) lower-binary.Post
 lower-materializing-requires-2 t c κs =
@@ -174,7 +176,7 @@ returns-4 t c =
     (then-by tree _ registerAt _ _ _ (destination .0 tree _ _ _) (at-value .before .before .is-refusal .ensures) (at-value .before .if1 .left) (at-value .value-of .ensures)
     (then-by tree _ (operandAt _) _ _ _ left (at-asked .is-refusal2 .ensures) (at-read .before .if2 .left) (at-read .value-of2 .ensures)
     (then-by tree _ (operandAt _) _ _ _ right (at-asked2 .is-refusal3 .ensures) (at-read2 .before .if3 .left) (at-read2 .value-of3 .ensures)
-    (then-literals tree _ _ _ _ _ _ _ both left-literal right-literal (loaded .0 _ _ _ ∙ register-operand tree _ _ _ _ few (loaded .1))))))
+    (then-literals tree _ _ _ _ _ _ _ both left-literal right-literal (loaded .0 _ _ _ ∙ given-operand tree _ _ _ _ (inr few) (loaded .1))))))
 
 binary-operation-requires : (t : ℕ) → lower-binary-lts.Need-binary-operation-requires (calls t) (lower-binary-at t) lower-binary.Post
 binary-operation-requires t c κs =

@@ -1,7 +1,7 @@
 -- The needs of `lower_block`: destination, then the tail or nil.
 use Prim.Native.Nat.{ℕ}
 use native.Mathlib.Omega.{arith}
-use mathlib.Core.Path.{refl, sym, _∙_}
+use mathlib.Core.Path.{sym, _∙_}
 use borrow.Author.Needs.{needs}
 use borrow.Author.Tests.{eq-eqb, ne-eqb}
 use Rattle.lowering.specs.Tree.{treeOf}
@@ -10,8 +10,9 @@ use Rattle.steps.specs.Answers.{registerAt, operandAt, settled}
 use Rattle.steps.proofs.Chains.{then, then-by, stop-by}
 use Rattle.steps.proofs.Words.{destOf-to}
 use Rattle.codegen.specs.Kinds.{blockKind}
-use Rattle.codegen.proofs.Walk.{below-of, expression-of, falling, ended}
-use Rattle.codegen.proofs.Operands.{register-word, walk-requires, into-of}
+use Rattle.codegen.proofs.Walk.{below-of, expression-of, ended}
+use Rattle.codegen.proofs.Children.{child-seen, walk-requires, into-of}
+use Rattle.codegen.proofs.Operands.{register-word}
 use Rattle.codegen.proofs.flat.peek_into.Reads as peek-into-reads
 use Rattle.codegen.proofs.lower_expression.lower_block.Reads as lower-block
 use Rattle.codegen.proofs.lower_expression.lower_materializing.Reads as lower-materializing
@@ -90,7 +91,7 @@ peek-into-requires t c κs =
     let ready = start .pre .1 .0 .0 in
     let below = rw (← (at-tail .node-word .ensures)) at (below-of (ready .0) _ blockKind (start .pre .1 .1)) in
     let few = register-word _ (at-value .before .before .is-refusal .ensures) (at-value .before .if1 .left) (at-value .value-of .ensures) (at-destination .destination .ensures .1 (start .pre .1 .0 .1)) in
-    ((falling _ _ _ (ready .0), (ready .1 .0, omega (arith, below (at-there .if2 .left), ready .1 .1))), few)
+    (child-seen _ _ _ _ _ ready (below (at-there .if2 .left)), few)
 
 lower-materializing-requires : (t : ℕ) → lower-block-lts.Need-lower-materializing-requires (calls t) (lower-block-at t) lower-block.Post
 lower-materializing-requires t c κs =

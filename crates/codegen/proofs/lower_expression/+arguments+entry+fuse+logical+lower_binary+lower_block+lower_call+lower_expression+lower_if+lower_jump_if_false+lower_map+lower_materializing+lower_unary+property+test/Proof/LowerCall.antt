@@ -12,8 +12,8 @@ use Rattle.lowering.specs.Lower.{lowerNode}
 use Rattle.steps.specs.Answers.{registerAt, unitAt, operandAt, settled}
 use Rattle.steps.proofs.Chains.{then-by, stop-by, then-emitted, stop-emitted}
 use Rattle.codegen.proofs.Walk.{ended}
-use Rattle.codegen.proofs.Children.{child-seen, child-asked}
-use Rattle.codegen.proofs.Operands.{register-word, register-of}
+use Rattle.codegen.proofs.Children.{child-seen, register-of, walk-requires}
+use Rattle.codegen.proofs.Operands.{register-word}
 use Rattle.codegen.proofs.Branches.{by-answer, then-given-back, fields, call-below, call-of}
 use Rattle.codegen.proofs.lower_expression.lower_call.Reads as lower-call
 use Rattle.codegen.proofs.lower_expression.+arguments+entry+fuse+logical+lower_binary+lower_block+lower_call+lower_expression+lower_if+lower_jump_if_false+lower_map+lower_materializing+lower_unary+property+test.Lts-lower_call as lower-call-lts
@@ -116,7 +116,7 @@ lower-materializing-requires t c κs =
     let at-peeked = c .before .before .before .before .before .before .before in
     let at-arguments = from-destination t (at-peeked .before .before .before .before) in
     let at-start = start t at-arguments in
-    child-asked _ _ _ _ _ (at-start .pre .1 .0 .0) (below t at-arguments) _ _ (omega (arith, at-start .pre .0)) (at-peeked .peek .ensures .1 .1)
+    walk-requires _ _ _ _ _ _ (at-start .pre .1 .0 .0) (below t at-arguments) (omega (arith, at-start .pre .0)) (omega arith) (λ h. omega (arith, at-peeked .peek .ensures .1 .1 h .1 .0))
 
 returns-3 : (t : ℕ) → lower-call-lts.Need-returns-3 (calls t) (lower-call-at t) lower-call.Post
 unfolding lowerNode

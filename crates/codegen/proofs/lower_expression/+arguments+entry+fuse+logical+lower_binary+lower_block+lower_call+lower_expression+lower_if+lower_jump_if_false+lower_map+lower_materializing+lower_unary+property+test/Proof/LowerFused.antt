@@ -1,7 +1,7 @@
 -- `lower_fused`: the left side, the right side, and the jump of both; each side is tried and then walked. Assumes nothing.
 use Prim.Native.Nat.{ℕ, _<_}
 use native.Mathlib.Omega.{arith}
-use mathlib.Core.Path.{_≡_, _∙_}
+use mathlib.Core.Path.{_≡_, refl, _∙_}
 use lib.ListN.{length}
 use denote.Ref.{now}
 use borrow.Author.Needs.{needs}
@@ -13,7 +13,7 @@ use Rattle.steps.specs.Answers.{operandAt, placeAt}
 use Rattle.steps.proofs.Chains.{then-by, stop-by}
 use Rattle.codegen.specs.Ready.{Lowers}
 use Rattle.codegen.proofs.Walk.{falling}
-use Rattle.codegen.proofs.Children.{child-seen, child-asked, child-given}
+use Rattle.codegen.proofs.Children.{child-seen, walk-requires, operand-of}
 use Rattle.codegen.proofs.Conditions.{compared-kind, compared-below, compared, two-literals, two-sources}
 use Rattle.codegen.proofs.lower_expression.fuse.Reads as lower-fused
 use Rattle.codegen.proofs.lower_expression.lower_materializing.Reads as lower-materializing
@@ -53,7 +53,7 @@ module _ (t : ℕ) where
   lower-materializing-requires c κs =
       let tried = c .before .before .before .before .before .before .before in
       let read = tried .before .before .before in
-      child-asked _ _ _ _ _ (at-start read .pre .1 .0) (below read .0) _ t (omega (arith, at-start read .pre .0)) (tried .peek .ensures .1 .1)
+      walk-requires _ _ _ _ _ _ (at-start read .pre .1 .0) (below read .0) (omega (arith, at-start read .pre .0)) (omega arith) (λ h. omega (arith, tried .peek .ensures .1 .1 h .1 .0))
 
   -- ---- the left side, from where it was walked
   module _ (c : lts.After-lower-materializing (calls t) (lower-fused-at t) lower-fused.Post) where
@@ -69,7 +69,7 @@ module _ (t : ℕ) where
     left-given : Lowers (λ t. operandAt (nodeAt (t .nodes) (left sides))) (λ t. lowerExpression freeTemp t (left sides) Dest.Any)
         (now (start .args .nodes)) (now (start .args .list)) (now (start .args .names)) (now (start .args .code)) (now (start .args .constants)) (now (start .args .marks))
         (c .lower-materializing .last .1 .1 .1 .0) (c .lower-materializing .last .1 .1 .1 .1 .0) (c .lower-materializing .last .1 .1 .1 .1 .1 .0) (start .args .state) (c .lower-materializing .result)
-    left-given = child-given _ _ _ _ _ _ _ _ _ _ _ _ _ _ _ (start .pre .1 .0 .0) (left-tried .peek .ensures .0) (left-tried .peek .ensures .1 .1) (c .lower-materializing .ensures)
+    left-given = operand-of (start .pre .1 .0 .0) (left-tried .peek .ensures .1 .1) (c .lower-materializing .ensures .0) (c .lower-materializing .ensures .1) (λ h. left-tried .peek .ensures .0 _ _ (start .pre .1 .0 .0) h refl)
 
     left-lengths : (length (c .lower-materializing .last .1 .1 .1 .0) ≡ length (now (start .args .code))) × ((length (c .lower-materializing .last .1 .1 .1 .1 .0) ≡ length (now (start .args .constants))) × (length (c .lower-materializing .last .1 .1 .1 .1 .1 .0) ≡ length (now (start .args .marks))))
     left-lengths =
@@ -96,7 +96,7 @@ module _ (t : ℕ) where
   lower-materializing-requires-2 c κs =
       let tried = c .before .before .before .before .before .before .before in
       let read = sides (left-walked (tried .before .before .before .before .before .before)) in
-      child-asked _ _ _ _ _ (at-start read .pre .1 .0) (below read .1) _ t (omega (arith, at-start read .pre .0)) (tried .peek2 .ensures .1 .1)
+      walk-requires _ _ _ _ _ _ (at-start read .pre .1 .0) (below read .1) (omega (arith, at-start read .pre .0)) (omega arith) (λ h. omega (arith, tried .peek2 .ensures .1 .1 h .1 .0))
 
   -- ---- the right side, from where it was walked
   module _ (c : lts.After-lower-materializing2 (calls t) (lower-fused-at t) lower-fused.Post) where
@@ -119,7 +119,7 @@ module _ (t : ℕ) where
         (now (start before-right .args .nodes)) (now (start before-right .args .list)) (now (start before-right .args .names))
         (before-right .lower-materializing .last .1 .1 .1 .0) (before-right .lower-materializing .last .1 .1 .1 .1 .0) (before-right .lower-materializing .last .1 .1 .1 .1 .1 .0)
         (c .lower-materializing2 .last .1 .1 .1 .0) (c .lower-materializing2 .last .1 .1 .1 .1 .0) (c .lower-materializing2 .last .1 .1 .1 .1 .1 .0) (before-right .lower-materializing .result .state) (c .lower-materializing2 .result)
-    right-given = child-given _ _ _ _ _ _ _ _ _ _ _ _ _ _ _ (start before-right .pre .1 .0 .0) (right-tried .peek2 .ensures .0) (right-tried .peek2 .ensures .1 .1) (c .lower-materializing2 .ensures)
+    right-given = operand-of (start before-right .pre .1 .0 .0) (right-tried .peek2 .ensures .1 .1) (c .lower-materializing2 .ensures .0) (c .lower-materializing2 .ensures .1) (λ h. right-tried .peek2 .ensures .0 _ _ (start before-right .pre .1 .0 .0) h refl)
 
     right-lengths : (length (c .lower-materializing2 .last .1 .1 .1 .0) ≡ length (now (start before-right .args .code))) × ((length (c .lower-materializing2 .last .1 .1 .1 .1 .0) ≡ length (now (start before-right .args .constants))) × (length (c .lower-materializing2 .last .1 .1 .1 .1 .1 .0) ≡ length (now (start before-right .args .marks))))
     right-lengths =

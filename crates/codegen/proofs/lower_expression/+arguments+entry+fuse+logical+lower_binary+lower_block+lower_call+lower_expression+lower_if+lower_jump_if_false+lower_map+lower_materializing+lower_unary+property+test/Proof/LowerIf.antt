@@ -13,8 +13,8 @@ use Rattle.lowering.specs.Lower.{lowerNode}
 use Rattle.steps.specs.Answers.{any, registerAt, placeAt, operandAt, settled}
 use Rattle.steps.proofs.Chains.{then-by, stop-by, then-emitted, stop-emitted}
 use Rattle.codegen.proofs.Walk.{then-patched, ended}
-use Rattle.codegen.proofs.Children.{child-seen}
-use Rattle.codegen.proofs.Operands.{register-word, walk-requires}
+use Rattle.codegen.proofs.Children.{child-seen, walk-requires}
+use Rattle.codegen.proofs.Operands.{register-word}
 use Rattle.codegen.proofs.Branches.{then-branch, stop-branch, by-answer, if-below, if-of, then-else, stop-else}
 use Rattle.codegen.proofs.lower_expression.lower_if.Reads as lower-if
 use Rattle.codegen.proofs.lower_expression.+arguments+entry+fuse+logical+lower_binary+lower_block+lower_call+lower_expression+lower_if+lower_jump_if_false+lower_map+lower_materializing+lower_unary+property+test.Lts-lower_if as lower-if-lts

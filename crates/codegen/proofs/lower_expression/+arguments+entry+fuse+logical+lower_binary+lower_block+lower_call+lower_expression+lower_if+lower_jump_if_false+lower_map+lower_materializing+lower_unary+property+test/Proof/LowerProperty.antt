@@ -10,8 +10,9 @@ use Rattle.lowering.specs.Lower.{lowerNode}
 use Rattle.steps.specs.Answers.{registerAt, operandAt, settled}
 use Rattle.steps.proofs.Chains.{then-by, stop-by, then-stored, stop-stored, then-emitted, stop-emitted}
 use Rattle.codegen.specs.Kinds.{propertyKind}
-use Rattle.codegen.proofs.Walk.{below-of, expression-of, falling, then-freed, ended}
-use Rattle.codegen.proofs.Operands.{register-word, walk-requires, register-of}
+use Rattle.codegen.proofs.Walk.{below-of, expression-of, then-freed, ended}
+use Rattle.codegen.proofs.Children.{child-seen, walk-requires, register-of}
+use Rattle.codegen.proofs.Operands.{register-word}
 use Rattle.codegen.proofs.flat.peek.Reads as peek-reads
 use Rattle.codegen.proofs.lower_expression.lower_materializing.Reads as lower-materializing
 use Rattle.codegen.proofs.lower_expression.property.Reads as lower-property
@@ -47,7 +48,7 @@ peek-requires t c κs =
     let start = at-object .before .before .before .before .before .before .before in
     let ready = start .pre .1 .0 .0 in
     let below = rw (← (at-object .node-word .ensures)) at (below-of (ready .0) _ propertyKind (start .pre .1 .1)) in
-    ((falling _ _ _ (ready .0), (ready .1 .0, omega (arith, below, ready .1 .1))), omega arith)
+    (child-seen _ _ _ _ _ ready below, omega arith)
 
 lower-materializing-requires : (t : ℕ) → lower-property-lts.Need-lower-materializing-requires (calls t) (lower-property-at t) lower-property.Post
 lower-materializing-requires t c κs =

@@ -7,8 +7,9 @@ use Rattle.diagnostics.specs.declared.Refusal.{Refusal}
 use Rattle.lowering.specs.Tree.{treeOf}
 use Rattle.steps.specs.Answers.{registerAt, operandAt, settled}
 use Rattle.steps.proofs.Chains.{then-by, stop-by, then-emitted, stop-emitted}
-use Rattle.codegen.proofs.Walk.{falling, then-freed, ended}
-use Rattle.codegen.proofs.Operands.{register-word, walk-requires, register-of, single, single-words, single-below, single-of}
+use Rattle.codegen.proofs.Walk.{then-freed, ended}
+use Rattle.codegen.proofs.Children.{child-seen, walk-requires, register-of}
+use Rattle.codegen.proofs.Operands.{register-word, single, single-words, single-below, single-of}
 use Rattle.codegen.proofs.flat.peek.Reads as peek-reads
 use Rattle.codegen.proofs.lower_expression.lower_materializing.Reads as lower-materializing
 use Rattle.codegen.proofs.lower_expression.lower_unary.Reads as lower-unary
@@ -44,7 +45,7 @@ peek-requires t c κs =
     let start = at-operand .before .before .before .before .before .before .before in
     let ready = start .pre .1 .0 .0 in
     let below = rw (← (at-operand .only-operand .ensures)) at (single-below _ _ _ _ (ready .0) (start .pre .1 .1)) in
-    ((falling _ _ _ (ready .0), (ready .1 .0, omega (arith, below, ready .1 .1))), omega arith)
+    (child-seen _ _ _ _ _ ready below, omega arith)
 
 lower-materializing-requires : (t : ℕ) → lower-unary-lts.Need-lower-materializing-requires (calls t) (lower-unary-at t) lower-unary.Post
 lower-materializing-requires t c κs =
