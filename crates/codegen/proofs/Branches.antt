@@ -73,11 +73,6 @@ module _ {nodes names code code₁ code₂ pool pool₁ pool₂ marks marks₂ :
 
 -- ---- the end of an arm
 
--- a register given back, by what `give_back` answers
-pub then-given-back : {B : Type 0} (m : Made) (w : ℕ) {registers : RegisterSet} (k : Unit {0} → Walk B) {r : Outcome B} → registers ≡ givenBack (m .state .registers) w →
-    settled (k tt (withRegisters registers m)) ≡ r → settled (bind (freeTemp (registerAt w) m) k) ≡ r
-then-given-back m w k same q = then-freed m w k (rw same at q)
-
 -- the fields of an instruction
 pub fields : (opcode : ℕ) {a b c x y z : ℕ} → a ≡ x → b ≡ y → c ≡ z → opcode ∷ x ∷ y ∷ z ∷ [] ≡ opcode ∷ a ∷ b ∷ c ∷ []
 fields opcode e f g = rw (e, f, g)

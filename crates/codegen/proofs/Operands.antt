@@ -10,7 +10,8 @@ use lib.Dec.{eqb}
 use borrow.Author.Tests.{eq-eqb, ne-eqb}
 use Rattle.environment.specs.declared.Register.{Register}
 use Rattle.syntax.specs.declared.ops.BinaryOp.{BinaryOp}
-use Rattle.syntax.specs.Ops.{unaryOp}
+use Rattle.syntax.specs.Ast.{nodeWord}
+use Rattle.syntax.specs.Ops.{unaryOp, binaryOp}
 use Rattle.runtime.specs.declared.instruction.Instruction.{Instruction}
 use Rattle.runtime.specs.declared.operand.Operand.{Operand}
 use Rattle.runtime.specs.Instruction.{wordsOf}
@@ -28,7 +29,7 @@ use Rattle.steps.specs.Answers.{any, registerAt, literalWord, operandAt, source
 use Rattle.steps.proofs.Chains.{got, seen-given}
 use Rattle.steps.proofs.Words.{register-value, source-operand}
 use Rattle.codegen.specs.Ready.{wordOf}
-use Rattle.codegen.specs.Kinds.{unaryKind, notKind, onlyOperand, twoLiterals}
+use Rattle.codegen.specs.Kinds.{binaryKind, unaryKind, notKind, onlyOperand, twoLiterals}
 use Rattle.codegen.proofs.Walk.{below-of, expression-of, literal-materialized, no-register}
 
 -- ---- a register's word, by what the program asked and read
@@ -71,6 +72,21 @@ module _ (nodes : List ℕ) (i : ℕ) where
     unfolding onlyOperand single lowerNode
     single-of (inl kind) dest m q = expression-of checked i unaryKind kind dest m (rw kind at q)
     single-of (inr kind) dest m q = expression-of checked i notKind kind dest m (rw kind at q)
+
+-- ---- an operator, by the words of its node
+
+module _ {t : Tree} (checked : Checked t) (i : ℕ) (kind : nodeWord (t .nodes) i 0 ≡ binaryKind) {left right : ℕ} (left-word : left ≡ nodeWord (t .nodes) i 2)
+    (right-word : right ≡ nodeWord (t .nodes) i 3) where
+  pub operator-below : (left < i) × (right < i)
+  operator-below = rw (left-word, right-word) (below-of checked i binaryKind kind)
+
+  -- destination, left, right, and what is made of both
+  pub operator-of : (dest : Dest) (m : Made) {r : Outcome Operand} →
+      settled (bind (destination dest m) (λ d m₁. bind (lowerExpression freeTemp t left Dest.Any m₁) (λ a m₂. bind (lowerExpression freeTemp t right Dest.Any m₂)
+      (λ b. binarySources freeTemp t (lowerExpression freeTemp t) (binaryOp (nodeWord (t .nodes) i 1)) left right d (source a) (source b))))) ≡ r →
+      settled (lowerExpression freeTemp t i dest m) ≡ r
+  unfolding lowerNode
+  operator-of dest m q = expression-of checked i binaryKind kind dest m (rw (left-word, right-word) at q)
 
 -- ---- the two sources of an operator
 
@@ -131,22 +147,26 @@ module _ (t : Tree) where
       go true l = l
       go false l = absurd (no-register (literal (node t n)) _ m₁ (literal-source (node t n)) (subst GivesRegister is (expression-register t n l dest m)))
 
-  module _ (operator : BinaryOp) (left right : ℕ) (d : Register) (m : Made) (v w : ℕ) {r : Outcome Operand} where
+  -- x and y are the words of the node that name its operands
+  module _ (operator : BinaryOp) {left right x y : ℕ} (left-word : left ≡ x) (right-word : right ≡ y) (d : Register) (m : Made) (v w : ℕ) {r : Outcome Operand} where
     -- "Two literals are both loaded."
-    pub then-literals : (v ≡ literalWord) × (w ≡ literalWord) → isLiteral (node t left) ≡ true → isLiteral (node t right) ≡ true → settled (twoLiterals t operator left right d m) ≡ r →
+    pub then-literals : (v ≡ literalWord) × (w ≡ literalWord) → isLiteral (node t left) ≡ true → isLiteral (node t right) ≡ true → settled (twoLiterals t operator x y d m) ≡ r →
         settled (binarySources freeTemp t (lowerExpression freeTemp t) operator left right d (source (operandAt (node t left) v)) (source (operandAt (node t right) w)) m) ≡ r
     unfolding operandAt binarySources twoLiterals
     then-literals both l l′ q =
-        rw (both .0, both .1, literal-source (node t left), literal-source (node t right), literal-materialized t left l Dest.Any, literal-materialized t right l′ Dest.Any) q
+        rw (both .0, both .1, literal-source (node t left), literal-source (node t right), literal-materialized t left l Dest.Any, literal-materialized t right l′ Dest.Any)
+        (rw (← left-word, ← right-word) at q)
 
     -- else the instruction, and then the registers given back
     pub then-operator : eqb v literalWord && eqb w literalWord ≡ false →
-        settled (bind (binarySources (λ x. ret tt) t (lowerExpression freeTemp t) operator left right d (sourceAt (literal (node t left)) v) (sourceAt (literal (node t right)) w) m)
-        (λ o m₁. bind (freeSource (sourceAt (literal (node t left)) v) m₁) (λ x m₂. bind (freeSource (sourceAt (literal (node t right)) w) m₂) (λ y. ret (Operand.Register d))))) ≡ r →
+        settled (bind (binarySources (λ x. ret tt) t (lowerExpression freeTemp t) operator x y d (sourceAt (literal (node t x)) v) (sourceAt (literal (node t y)) w) m)
+        (λ o m₁. bind (freeSource (sourceAt (literal (node t x)) v) m₁) (λ u m₂. bind (freeSource (sourceAt (literal (node t y)) w) m₂) (λ z. ret (Operand.Register d))))) ≡ r →
         settled (binarySources freeTemp t (lowerExpression freeTemp t) operator left right d (source (operandAt (node t left) v)) (source (operandAt (node t right) w)) m) ≡ r
     then-operator h q =
         rw (
-          source-operand (node t left) v,
-          source-operand (node t right) w,
-          binary-given-back t (lowerExpression freeTemp t) operator left right d _ _ (both-constant (literal (node t left)) (literal (node t right)) v w ∙ h) m,
+          left-word,
+          right-word,
+          source-operand (node t x) v,
+          source-operand (node t y) w,
+          binary-given-back t (lowerExpression freeTemp t) operator x y d _ _ (both-constant (literal (node t x)) (literal (node t y)) v w ∙ h) m,
         ) q

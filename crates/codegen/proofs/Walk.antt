@@ -9,6 +9,7 @@ use mathlib.Core.List.{List}
 use lib.ListN.{getD}
 use borrow.Author.Tests.{eq-eqb, ne-eqb}
 use Rattle.environment.specs.declared.Register.{Register}
+use Rattle.environment.specs.declared.RegisterSet.{RegisterSet}
 use Rattle.environment.specs.Registers.{givenBack}
 use Rattle.syntax.specs.declared.ast.Node.{Node}
 use Rattle.syntax.specs.Ast.{nodeKinds, nodeWord}
@@ -185,20 +186,20 @@ module _ (t : Tree) {B : Type 0} (m : Made) (k : Register → Walk B) where
   then-into n d m₂ b e h q =
       ap settled (ends-with d _ k (expression-into t n d m)) ∙ then t _ registerAt m₂ b (λ y. k d) e h q
 
--- a register given back, and what a source held
-pub then-freed : {B : Type 0} (m : Made) (w : ℕ) (k : Unit {0} → Walk B) {r : Outcome B} → settled (k tt (withRegisters (givenBack (m .state .registers) w) m)) ≡ r →
-    settled (bind (freeTemp (registerAt w) m) k) ≡ r
+-- a register given back, and what a source held, by what `give_back` answers
+pub then-freed : {B : Type 0} (m : Made) (w : ℕ) {registers : RegisterSet} (k : Unit {0} → Walk B) {r : Outcome B} → registers ≡ givenBack (m .state .registers) w →
+    settled (k tt (withRegisters registers m)) ≡ r → settled (bind (freeTemp (registerAt w) m) k) ≡ r
 unfolding freeTemp bind
-then-freed m w k q = rw (freed-word (m .state .registers) w) q
+then-freed m w k same q = rw (freed-word (m .state .registers) w) (rw same at q)
 
-pub then-freed-source : {B : Type 0} (m : Made) (c : Operand) (w : ℕ) (k : Unit {0} → Walk B) {r : Outcome B} → settled (k tt (withRegisters (givenBack (m .state .registers) w) m)) ≡ r →
-    settled (bind (freeSource (sourceAt c w) m) k) ≡ r
+pub then-freed-source : {B : Type 0} (m : Made) (c : Operand) (w : ℕ) {registers : RegisterSet} (k : Unit {0} → Walk B) {r : Outcome B} → registers ≡ givenBack (m .state .registers) w →
+    settled (k tt (withRegisters registers m)) ≡ r → settled (bind (freeSource (sourceAt c w) m) k) ≡ r
 unfolding freeSource sourceAt bind
-then-freed-source m c w k {r} q = go (ℕ-discrete w literalWord)
+then-freed-source m c w k {r} same q = go (ℕ-discrete w literalWord)
   where
     go : Dec (w ≡ literalWord) → settled (bind (freeSource (sourceAt c w) m) k) ≡ r
-    go (yes h) = rw (eq-eqb w literalWord h) (rw (h, freed-literal (m .state .registers)) at q)
-    go (no h) = rw (ne-eqb w literalWord h) (then-freed m w k q)
+    go (yes h) = rw (eq-eqb w literalWord h) (rw (same, h, freed-literal (m .state .registers)) at q)
+    go (no h) = rw (ne-eqb w literalWord h) (then-freed m w k same q)
 
 -- a jump patched to the next instruction
 pub then-patched : {B : Type 0} (m : Made) (j : ℕ) (code : List ℕ) (k : Unit {0} → Walk B) {r : Outcome B} → code ≡ withOffset (m .code) j (m .state .instructions - j) →

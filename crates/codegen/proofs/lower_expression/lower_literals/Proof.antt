@@ -11,6 +11,7 @@ use Rattle.steps.proofs.Words.{destOf-any, refusal-start}
 use Rattle.steps.proofs.Chains.{seen-word, then-by, stop-by, then-emitted, stop-emitted}
 use Rattle.codegen.specs.Kinds.{twoLiterals}
 use Rattle.codegen.proofs.Walk.{then-freed}
+use Rattle.codegen.proofs.Branches.{by-answer}
 use Rattle.codegen.proofs.Reading.{refused-start}
 use Rattle.codegen.proofs.lower_expression.lower_literals.Statement.{statement}
 use Rattle.codegen.proofs.lower_expression.lower_literals.Tie as tie
@@ -164,18 +165,18 @@ returns-4 c =
       at-first .before .reg-of2 .ensures,
       at-second .before .before .reg-of3 .ensures,
       at-second .before .reg-of4 .ensures,
-    ) at (at-emitted .emit-instruction .ensures .0) in
-    rw (c .answered .ensures .0, c .answered .ensures .1, c .before .give-back2 .ensures, at-freed .give-back .ensures) (
+    ) at (at-emitted .emit-instruction .ensures .0) in (
       (λ list names m.
           let t = treeOf (start .args .nodes .now) list names in
-          rw (← at-words .node-word3 .ensures, ← at-words .before .node-word2 .ensures, ← at-words .before .before .node-word .ensures, ← at-left .before .literal .ensures, ← at-right .before .literal2 .ensures, ← destOf-any)
+          by-answer t _ _ _ _ _ (c .answered .ensures)
+          (rw (← at-words .node-word3 .ensures, ← at-words .before .node-word2 .ensures, ← at-words .before .before .node-word .ensures, ← at-left .before .literal .ensures, ← at-right .before .literal2 .ensures, ← destOf-any)
           (then-by t _ registerAt _ _ _ (left t m) (at-given .before .is-refusal .ensures) (at-given .if1 .left) (at-value .value-of .ensures)
           (then-by t _ registerAt _ _ _ (right t m) (at-given2 .before .is-refusal2 .ensures) (at-given2 .if2 .left) (at-value2 .value-of2 .ensures)
           (then-emitted t _ _ _ _ (at-opcode .binary-rr .ensures _ _ _) put (at-counted .before .if3 .left) (at-counted .counted .ensures Refusal.Code)
-          (then-freed _ _ _
-          (then-freed _ _ _
-          (sym (seen-word t (λ w. Operand.Register (registerAt w)) _ _ (omega (arith, start .fits .d)))))))))),
-      inr refl,
+          (then-freed _ _ _ (at-freed .give-back .ensures)
+          (then-freed _ _ _ (c .before .give-back2 .ensures)
+          (sym (seen-word t (λ w. Operand.Register (registerAt w)) _ _ (omega (arith, start .fits .d))))))))))),
+      inr (c .answered .ensures .1),
     )
 
 pub lower-literals-spec : {M : Type 1} → statement M

@@ -11,10 +11,10 @@ use Rattle.lowering.specs.Tree.{treeOf}
 use Rattle.lowering.specs.Lower.{lowerNode}
 use Rattle.steps.specs.Answers.{registerAt, unitAt, operandAt, settled}
 use Rattle.steps.proofs.Chains.{then-by, stop-by, then-emitted, stop-emitted}
-use Rattle.codegen.proofs.Walk.{ended}
+use Rattle.codegen.proofs.Walk.{then-freed, ended}
 use Rattle.codegen.proofs.Children.{child-seen, register-of, walk-requires}
 use Rattle.codegen.proofs.Operands.{register-word}
-use Rattle.codegen.proofs.Branches.{by-answer, then-given-back, fields, call-below, call-of}
+use Rattle.codegen.proofs.Branches.{by-answer, fields, call-below, call-of}
 use Rattle.codegen.proofs.lower_expression.lower_call.Reads as lower-call
 use Rattle.codegen.proofs.lower_expression.+arguments+entry+fuse+logical+lower_binary+lower_block+lower_call+lower_expression+lower_if+lower_jump_if_false+lower_map+lower_materializing+lower_unary+property+test.Lts-lower_call as lower-call-lts
 use Rattle.codegen.proofs.lower_expression.arguments.Reads as lower-arguments
@@ -192,7 +192,7 @@ returns-5 t c =
     (then-by tree _ registerAt _ _ _ (at-asked .before .destination .ensures .0 _ _ _ _) (at-asked .is-refusal2 .ensures) (at-value .before .if2 .left) (at-value .value-of .ensures)
     (then-by tree _ registerAt _ _ _ callee (at-source .before .before .is-refusal3 .ensures) (at-source .before .if3 .left) (at-source .value-of2 .ensures)
     (then-emitted tree _ _ _ _ told (at-emitted .emit-instruction .ensures .0) (at-counted .before .if4 .left) (at-counted .counted .ensures Refusal.Code)
-    (then-given-back _ _ _ (c .before .give-back .ensures)
+    (then-freed _ _ _ (c .before .give-back .ensures)
     (ended _ _ _ _ few)))))))
 
 pub lower-call-proof : {M : Type 1} (t : ℕ) → lower-call-lts.Closed (calls t) (lower-call-at t) lower-call.Post M

@@ -13,6 +13,7 @@ use Rattle.codegen.specs.Kinds.{propertyKind}
 use Rattle.codegen.proofs.Walk.{below-of, expression-of, then-freed, ended}
 use Rattle.codegen.proofs.Children.{child-seen, walk-requires, register-of}
 use Rattle.codegen.proofs.Operands.{register-word}
+use Rattle.codegen.proofs.Branches.{by-answer}
 use Rattle.codegen.proofs.flat.peek.Reads as peek-reads
 use Rattle.codegen.proofs.lower_expression.lower_materializing.Reads as lower-materializing
 use Rattle.codegen.proofs.lower_expression.property.Reads as lower-property
@@ -158,13 +159,13 @@ returns-5 t c =
     let stored = rw (at-destination .before .node-word2 .ensures) at (at-stored .store-constant .ensures .0) in
     let emitted = rw (at-emitted .before .before .reg-of .ensures, at-emitted .before .reg-of2 .ensures) at (at-emitted .emit-instruction .ensures .0) in
     let few = register-word _ (at-value .before .before .is-refusal .ensures) (at-value .before .if1 .left) (at-value .value-of .ensures) (destination .1 (start .pre .1 .0 .1)) in
-    rw (c .answered .ensures .0, c .answered .ensures .1, c .before .give-back .ensures)
+    by-answer _ _ _ _ _ _ (c .answered .ensures)
     (expression-of checked _ propertyKind (start .pre .1 .1) _ _
     (then-by tree _ registerAt _ _ _ (destination .0 tree _ _ _) (at-value .before .before .is-refusal .ensures) (at-value .before .if1 .left) (at-value .value-of .ensures)
     (then-by tree _ registerAt _ _ _ object (at-asked .is-refusal2 .ensures) (at-read .before .if2 .left) (at-read .value-of2 .ensures)
     (then-stored tree _ _ _ _ stored (at-counted .before .if3 .left) (at-counted .counted .ensures Refusal.Constants)
     (then-emitted tree _ _ _ _ refl emitted (at-counted2 .before .if4 .left) (at-counted2 .counted2 .ensures Refusal.Code)
-    (then-freed _ _ _ (ended _ _ _ _ few)))))))
+    (then-freed _ _ _ (c .before .give-back .ensures) (ended _ _ _ _ few)))))))
 
 pub lower-property-proof : {M : Type 1} (t : ℕ) → lower-property-lts.Closed (calls t) (lower-property-at t) lower-property.Post M
 lower-property-proof t =

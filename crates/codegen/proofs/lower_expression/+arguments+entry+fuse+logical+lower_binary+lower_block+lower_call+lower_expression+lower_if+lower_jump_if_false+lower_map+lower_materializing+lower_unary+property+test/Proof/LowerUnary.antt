@@ -10,6 +10,7 @@ use Rattle.steps.proofs.Chains.{then-by, stop-by, then-emitted, stop-emitted}
 use Rattle.codegen.proofs.Walk.{then-freed, ended}
 use Rattle.codegen.proofs.Children.{child-seen, walk-requires, register-of}
 use Rattle.codegen.proofs.Operands.{register-word, single, single-words, single-below, single-of}
+use Rattle.codegen.proofs.Branches.{by-answer}
 use Rattle.codegen.proofs.flat.peek.Reads as peek-reads
 use Rattle.codegen.proofs.lower_expression.lower_materializing.Reads as lower-materializing
 use Rattle.codegen.proofs.lower_expression.lower_unary.Reads as lower-unary
@@ -134,12 +135,12 @@ returns-4 t c =
     let words = single-words _ _ _ (at-opcode .only-opcode .ensures .0) (at-opcode .only-opcode .ensures .1) _ _ in
     let emitted = rw (at-emitted .before .before .reg-of .ensures, at-emitted .before .reg-of2 .ensures) at (at-emitted .emit-instruction .ensures .0) in
     let few = register-word _ (at-value .before .before .is-refusal .ensures) (at-value .before .if1 .left) (at-value .value-of .ensures) (destination .1 (start .pre .1 .0 .1)) in
-    rw (c .answered .ensures .0, c .answered .ensures .1, c .before .give-back .ensures)
+    by-answer _ _ _ _ _ _ (c .answered .ensures)
     (single-of _ _ _ _ checked (start .pre .1 .1) _ _
     (then-by tree _ registerAt _ _ _ (destination .0 tree _ _ _) (at-value .before .before .is-refusal .ensures) (at-value .before .if1 .left) (at-value .value-of .ensures)
     (then-by tree _ registerAt _ _ _ operand (at-asked .is-refusal2 .ensures) (at-read .before .if2 .left) (at-read .value-of2 .ensures)
     (then-emitted tree _ _ _ _ words emitted (at-counted .before .if3 .left) (at-counted .counted .ensures Refusal.Code)
-    (then-freed _ _ _ (ended _ _ _ _ few))))))
+    (then-freed _ _ _ (c .before .give-back .ensures) (ended _ _ _ _ few))))))
 
 pub lower-unary-proof : {M : Type 1} (t : ℕ) → lower-unary-lts.Closed (calls t) (lower-unary-at t) lower-unary.Post M
 lower-unary-proof t =
