@@ -210,7 +210,7 @@ module _ (t : Tree) (E : ℕ → Dest → Walk Operand) (J : ℕ → Walk ℕ) (
       go true l = rw (literal-loaded n l (Dest.To d) m) (loaded-into (literal n) d m)
       go false l = kept-into d (node-aimed n l (Dest.To d) m)
 
-  -- with none given, one is taken, and then it is as if that one was given
+  -- with none given, an operator takes one, and then it is as if that one was given
   pub binary-any : (operator : BinaryOp) (left right : ℕ) (m : Made) →
       lowerNode freeTemp t E J i (Node.Binary operator left right) Dest.Any m
       ≡ bind (allocateTemp m) (λ d. lowerNode freeTemp t E J i (Node.Binary operator left right) (Dest.To d))

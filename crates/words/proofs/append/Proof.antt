@@ -27,10 +27,17 @@ same-length c = search needs
 
 returns : tie.Need-returns
 unfolding putRecord
-returns c = (
-  λ refusal. rw (c .before .before .put-record .ensures .0, appended-new (c .before .before .before .before .before .before .before .before .before .before .args .count) refusal (omega arith)) (sym (append-room _ _ _ (c .before .before .before .before .before .before .before .before .before .before .args .item .now) refusal (c .before .before .before .before .before .before .before .if1 .taken) (rw (c .before .before .before .before .before .capacity .ensures) at (c .before .before .before .before .if2 .taken)))),
-  c .before .before .put-record .ensures .1,
-)
+returns c =
+    let at-put = c .before .before in
+    let at-room = at-put .before .before in
+    let at-capacity = at-room .before in
+    let at-limit = at-capacity .before .before in
+    let a = at-limit .before .before .before .args in (
+      λ refusal.
+          rw (at-put .put-record .ensures .0, appended-new (a .count) refusal (omega arith))
+          (sym (append-room _ _ _ (a .item .now) refusal (at-limit .if1 .taken) (rw (at-capacity .capacity .ensures) at (at-room .if2 .taken)))),
+      at-put .put-record .ensures .1,
+    )
 
 same-length-2 : tie.Need-same-length-2
 same-length-2 c = search needs

@@ -25,8 +25,9 @@ same-length c = search needs
 
 returns : tie.Need-returns
 returns c =
-    let a = c .before .before .before .before .before .before .before .before .before .args in
-    let put = c .before .before .put-record in
+    let at-put = c .before .before in
+    let a = at-put .before .before .before .before .before .before .before .args in
+    let put = at-put .put-record in
     (put .ensures .0 ∙ sets-fitting (words (a .s .now)) (a .at) (length (a .s .now) / 4 - a .at) (a .xs .now) (omega (arith, length-words (a .s .now))), put .ensures .1)
 
 same-length-2 : tie.Need-same-length-2

@@ -42,10 +42,14 @@ same-length-2 c = search needs
 
 returns-2 : tie.Need-returns-2
 returns-2 c =
-    let a = c .before .before .before .before .before .before .before .before .before .before .before .args in
+    let appended = c .before .before .append in
+    let at-new = c .before .before .before .before .before in
+    let at-position = at-new .before in
+    let at-words = at-position .before .before .before in
+    let a = at-words .before .before .args in
     let constants = words (a .constants .now) in
-    let found : c .before .before .before .before .before .before .position .result ≡ position constants (constantWords (a .constant)) (a .count) = rw (← c .before .before .before .before .before .before .before .before .before .constant-words .ensures) (c .before .before .before .before .before .before .position .ensures) in
-    (c .before .before .append .ensures .0 Refusal.Constants ∙ rw (c .before .before .before .before .before .before .before .before .before .constant-words .ensures) (sym (store-new constants _ _ (rw found at (c .before .before .before .before .before .if1 .left)))), c .before .before .append .ensures .1)
+    let found : at-position .position .result ≡ position constants (constantWords (a .constant)) (a .count) = rw (← at-words .constant-words .ensures) (at-position .position .ensures) in
+    (appended .ensures .0 Refusal.Constants ∙ rw (at-words .constant-words .ensures) (sym (store-new constants _ _ (rw found at (at-new .if1 .left)))), appended .ensures .1)
 
 pub store-constant-spec : {M : Type 1} → statement M
 store-constant-spec =
