@@ -20,7 +20,7 @@ use Rattle.lowering.specs.declared.Dest.{Dest}
 use Rattle.lowering.specs.Tree.{Tree, treeOf, node}
 use Rattle.lowering.specs.Checked.{Checked}
 use Rattle.lowering.specs.Walk.{Made, Outcome, ends, Walk, bind, _>>=_, _>>_, ret}
-use Rattle.lowering.specs.Steps.{destination, emit, freeTemp}
+use Rattle.lowering.specs.Steps.{destination, emit, freeTemp, store}
 use Rattle.lowering.specs.Operators.{unary}
 use Rattle.lowering.specs.Literals.{isLiteral, literal}
 use Rattle.lowering.specs.Lower.{Source, register, constant, source, lowerMaterializing, lowerNode, lowerExpression, binarySources}
@@ -29,7 +29,7 @@ use Rattle.steps.specs.Answers.{any, registerAt, literalWord, operandAt, source
 use Rattle.steps.proofs.Chains.{got, seen-given}
 use Rattle.steps.proofs.Words.{register-value, source-operand}
 use Rattle.codegen.specs.Ready.{wordOf}
-use Rattle.codegen.specs.Kinds.{binaryKind, unaryKind, notKind, onlyOperand, twoLiterals}
+use Rattle.codegen.specs.Kinds.{binaryKind, propertyKind, unaryKind, notKind, onlyOperand, twoLiterals}
 use Rattle.codegen.proofs.Walk.{below-of, expression-of, literal-materialized, no-register}
 
 -- ---- a register's word, by what the program asked and read
@@ -39,11 +39,9 @@ register-word a told left read h = rw read (register-value a (sym told ∙ left)
 
 -- ---- a unary operator, or not
 
--- destination, operand, one instruction, and what the operand held given back
-unfoldable pub single : Tree → (ℕ → ℕ → Instruction) → ℕ → Dest → Walk Operand
-single t instruction operand dest = do
-  d ← destination dest
-  src ← lowerMaterializing (lowerExpression freeTemp t operand) Dest.Any
+-- one instruction, and what the operand held given back
+unfoldable pub operated : (ℕ → ℕ → Instruction) → Register → Register → Walk Operand
+operated instruction d src = do
   emit (instruction (regOf d) (regOf src))
   freeTemp src
   ret (Operand.Register d)
@@ -61,17 +59,41 @@ module _ (nodes : List ℕ) (i : ℕ) where
       go (yes h) = rw (eq-eqb (wordOf nodes i 0) unaryKind h) (u h d a)
       go (no h) = rw (ne-eqb (wordOf nodes i 0) unaryKind h) (n h d a)
 
-  module _ (list names : List ℕ) (checked : Checked (treeOf nodes list names)) where
-    pub single-below : (wordOf nodes i 0 ≡ unaryKind) ⊎ (wordOf nodes i 0 ≡ notKind) → onlyOperand nodes i < i
+  module _ {operand : ℕ} (operand-word : operand ≡ onlyOperand nodes i) (list names : List ℕ) (checked : Checked (treeOf nodes list names)) where
+    pub single-below : (wordOf nodes i 0 ≡ unaryKind) ⊎ (wordOf nodes i 0 ≡ notKind) → operand < i
     unfolding onlyOperand
-    single-below (inl kind) = rw (eq-eqb (wordOf nodes i 0) unaryKind kind) (below-of checked i unaryKind kind)
-    single-below (inr kind) = rw kind (below-of checked i notKind kind)
+    single-below (inl kind) = rw (operand-word, eq-eqb (wordOf nodes i 0) unaryKind kind) (below-of checked i unaryKind kind)
+    single-below (inr kind) = rw (operand-word, kind) (below-of checked i notKind kind)
 
+    -- destination, operand, and the rest
     pub single-of : (wordOf nodes i 0 ≡ unaryKind) ⊎ (wordOf nodes i 0 ≡ notKind) → (dest : Dest) (m : Made) {r : Outcome Operand} →
-        settled (single (treeOf nodes list names) (singleInstruction nodes i) (onlyOperand nodes i) dest m) ≡ r → settled (lowerExpression freeTemp (treeOf nodes list names) i dest m) ≡ r
-    unfolding onlyOperand single lowerNode
-    single-of (inl kind) dest m q = expression-of checked i unaryKind kind dest m (rw kind at q)
-    single-of (inr kind) dest m q = expression-of checked i notKind kind dest m (rw kind at q)
+        settled (bind (destination dest m) (λ d m₁. bind (lowerMaterializing (lowerExpression freeTemp (treeOf nodes list names) operand) Dest.Any m₁) (λ src. operated (singleInstruction nodes i) d src))) ≡ r →
+        settled (lowerExpression freeTemp (treeOf nodes list names) i dest m) ≡ r
+    unfolding onlyOperand operated lowerNode
+    single-of (inl kind) dest m q = expression-of checked i unaryKind kind dest m (rw (operand-word, kind) at q)
+    single-of (inr kind) dest m q = expression-of checked i notKind kind dest m (rw (operand-word, kind) at q)
+
+-- ---- a property
+
+-- the key pooled, one instruction, and what the object held given back
+unfoldable pub fetched : ℕ → Register → Register → Walk Operand
+fetched property d src = do
+  key ← store (Operand.String property)
+  emit (Instruction.GetPropertyK (regOf d) (regOf src) key)
+  freeTemp src
+  ret (Operand.Register d)
+
+module _ {t : Tree} (checked : Checked t) (i : ℕ) (kind : nodeWord (t .nodes) i 0 ≡ propertyKind) {object property : ℕ} (object-word : object ≡ nodeWord (t .nodes) i 1)
+    (property-word : property ≡ nodeWord (t .nodes) i 2) where
+  pub property-below : object < i
+  property-below = rw object-word (below-of checked i propertyKind kind)
+
+  -- destination, object, and the rest
+  pub property-of : (dest : Dest) (m : Made) {r : Outcome Operand} →
+      settled (bind (destination dest m) (λ d m₁. bind (lowerMaterializing (lowerExpression freeTemp t object) Dest.Any m₁) (λ src. fetched property d src))) ≡ r →
+      settled (lowerExpression freeTemp t i dest m) ≡ r
+  unfolding lowerNode fetched
+  property-of dest m q = expression-of checked i propertyKind kind dest m (rw (object-word, property-word) at q)
 
 -- ---- an operator, by the words of its node
 
