@@ -20,14 +20,15 @@ use Rattle.lowering.specs.declared.Dest.{Dest}
 use Rattle.lowering.specs.Tree.{Tree, treeOf, node}
 use Rattle.lowering.specs.Checked.{Checked}
 use Rattle.lowering.specs.Walk.{Made, Outcome, ends, Walk, bind, _>>=_, _>>_, ret}
-use Rattle.lowering.specs.Steps.{destination, emit, freeTemp, store}
-use Rattle.lowering.specs.Operators.{unary}
+use Rattle.lowering.specs.Steps.{destination, emit, freeTemp, store, loadConstant}
+use Rattle.lowering.specs.Operators.{unary, binaryRR}
 use Rattle.lowering.specs.Literals.{isLiteral, literal}
 use Rattle.lowering.specs.Lower.{Source, register, constant, source, lowerMaterializing, lowerNode, lowerExpression, binarySources}
 use Rattle.lowering.proofs.Destinations.{GivesRegister, expression-register, literal-source, bothConstant, freeSource, binary-given-back}
-use Rattle.steps.specs.Answers.{any, registerAt, literalWord, operandAt, sourceAt, settled, seen, isRefusal, valueOf, RegisterOrRefusal}
+use Rattle.operators.specs.Opcodes.{first, second}
+use Rattle.steps.specs.Answers.{any, registerAt, destOf, literalWord, operandAt, sourceAt, settled, seen, isRefusal, valueOf, RegisterOrRefusal}
 use Rattle.steps.proofs.Chains.{got, seen-given}
-use Rattle.steps.proofs.Words.{register-value, source-operand}
+use Rattle.steps.proofs.Words.{register-value, source-operand, destOf-any}
 use Rattle.codegen.specs.Ready.{wordOf}
 use Rattle.codegen.specs.Kinds.{binaryKind, propertyKind, unaryKind, notKind, onlyOperand, twoLiterals}
 use Rattle.codegen.proofs.Walk.{below-of, expression-of, literal-materialized, no-register}
@@ -192,3 +193,33 @@ module _ (t : Tree) where
           source-operand (node t y) w,
           binary-given-back t (lowerExpression freeTemp t) operator x y d _ _ (both-constant (literal (node t x)) (literal (node t y)) v w ∙ h) m,
         ) q
+
+-- ---- two literals
+
+-- one instruction, and both registers given back
+unfoldable pub combined : BinaryOp → Register → Register → Register → Walk Operand
+combined operator d src1 src2 = do
+  emit (binaryRR operator (regOf d) (regOf src1) (regOf src2))
+  freeTemp src1
+  freeTemp src2
+  ret (Operand.Register d)
+
+-- its fields, which may change places, by what the program has of each
+pub swapped-fields : (opcode : ℕ) {d e f g a b a′ b′ x y : ℕ} {s z : Bool} → e ≡ d → s ≡ z → f ≡ first s a b → g ≡ first s b′ a′ → a ≡ x → b ≡ y → a′ ≡ x → b′ ≡ y →
+    opcode ∷ d ∷ first z x y ∷ second z x y ∷ [] ≡ opcode ∷ e ∷ f ∷ g ∷ []
+swapped-fields opcode p swap l r a b a′ b′ = rw (p, l, r, swap, a, b, a′, b′)
+
+-- the left is loaded, and then the rest; x, y and z are the words of the node
+pub one-loaded : (t : Tree) {left y : ℕ} {a : Operand} → left ≡ y → a ≡ literal (node t left) → (operator : BinaryOp) (z : ℕ) (d : Register) (m : Made) {r : Outcome Operand} →
+    settled (bind (loadConstant a (destOf any) m) (λ src1 m₁. bind (loadConstant (literal (node t z)) Dest.Any m₁) (λ src2. combined operator d src1 src2))) ≡ r →
+    settled (twoLiterals t operator y z d m) ≡ r
+unfolding twoLiterals combined
+one-loaded t left-word is operator z d m q = rw (← left-word, ← is) (rw destOf-any at q)
+
+-- both are
+pub two-loaded : (t : Tree) {operator left right x y z : ℕ} {a b : Operand} → operator ≡ x → left ≡ y → right ≡ z → a ≡ literal (node t left) → b ≡ literal (node t right) →
+    (d : Register) (m : Made) {r : Outcome Operand} →
+    settled (bind (loadConstant a (destOf any) m) (λ src1 m₁. bind (loadConstant b (destOf any) m₁) (λ src2. combined (binaryOp operator) d src1 src2))) ≡ r →
+    settled (twoLiterals t (binaryOp x) y z d m) ≡ r
+two-loaded t operator-word left-word right-word is-left is-right d m q =
+    one-loaded t left-word is-left _ _ d m (rw (← operator-word, ← right-word, ← is-right, destOf-any) (rw destOf-any at q))
