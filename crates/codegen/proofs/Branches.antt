@@ -12,8 +12,6 @@ use Rattle.diagnostics.specs.declared.Refusal.{Refusal}
 use Rattle.words.specs.Words.{words}
 use Rattle.words.specs.Records.{buffer, append, appended, maxCount}
 use Rattle.environment.specs.declared.Register.{Register}
-use Rattle.environment.specs.declared.RegisterSet.{RegisterSet}
-use Rattle.environment.specs.Registers.{givenBack}
 use Rattle.syntax.specs.declared.ast.Node.{Node}
 use Rattle.syntax.specs.Ast.{absent, nodeWord}
 use Rattle.runtime.specs.declared.instruction.Instruction.{Instruction}
@@ -25,7 +23,7 @@ use Rattle.lowering.specs.declared.State.{State}
 use Rattle.lowering.specs.Tree.{Tree, node, spanStart, spanEnd}
 use Rattle.lowering.specs.Checked.{Checked, IfBelow, CallBelow}
 use Rattle.lowering.specs.Walk.{Made, made, Outcome, Walk, bind, _>>=_, _>>_, ret}
-use Rattle.lowering.specs.Steps.{freeTemp, withRegisters, destination, emit, patchToNext, mark}
+use Rattle.lowering.specs.Steps.{freeTemp, destination, emit, patchToNext, mark}
 use Rattle.lowering.specs.Lower.{refuse, lowerMaterializing, lowerArguments, lowerElse, lowerNode, lowerExpression, lowerJumpIfFalse}
 use Rattle.lower_ast.specs.Arguments.{markArgument}
 use Rattle.steps.specs.declared.answer.Lowered.{Lowered}
@@ -33,7 +31,7 @@ use Rattle.steps.specs.Answers.{any, registerAt, destOf, operandAt, settled, se
 use Rattle.steps.proofs.Words.{registerAt-local}
 use Rattle.steps.proofs.Chains.{stop-by, seen-refusal, seen-word}
 use Rattle.codegen.specs.Kinds.{binaryKind, andKind, orKind, ifKind, callKind}
-use Rattle.codegen.proofs.Walk.{below-of, expression-of, then-into, then-freed}
+use Rattle.codegen.proofs.Walk.{below-of, expression-of, then-into}
 use Rattle.codegen.proofs.Children.{into-of}
 
 -- ---- a child in d

@@ -1,5 +1,5 @@
 -- The laws by which `lower` does what the definition says: the root by its mode, and the eight numbers. Assumes nothing.
-use Prim.Native.Nat.{ℕ, zero, suc, _+_, _*_, _/_, _≤_, _<_}
+use Prim.Native.Nat.{ℕ, zero, suc, _*_, _/_, _≤_, _<_}
 use native.Mathlib.Omega.{arith}
 use mathlib.Core.Path.{_≡_, refl, sym, _∙_, ap}
 use mathlib.Core.Logic.{_⊎_, inl, inr}
@@ -22,7 +22,6 @@ use Rattle.lowering.specs.Tree.{Tree, treeOf, spanStart, spanEnd}
 use Rattle.lowering.specs.Questions.{question2, question8, passed, refused, questions}
 use Rattle.lowering.specs.Walk.{Made, made, Outcome, ends, stops, bind, ret, error}
 use Rattle.lowering.specs.Steps.{freeTemp, patchMarks}
-use Rattle.lowering.specs.Lower.{lowerExpression}
 use Rattle.lowering.specs.Result as definition
 use Rattle.lowering.proofs.Questions.Checked.{and-right, questions-passed}
 use Rattle.lowering.proofs.Bound.Lowering.{jump-false-at, jump-true-at}

@@ -3,7 +3,7 @@ use mathlib.Core.Path.{refl, sym, _∙_}
 use mathlib.Core.Bool.{true≢false}
 use native.Mathlib.Omega.{arith}
 use borrow.Author.Needs.{needs}
-use borrow.Author.Tests.{not-true, not-false}
+use borrow.Author.Tests.{not-false}
 use Rattle.diagnostics.specs.declared.Refusal.{Refusal}
 use Rattle.operators.proofs.Compares.{compares-some}
 use Rattle.steps.specs.Answers.{placeAt}

@@ -13,6 +13,7 @@ use Rattle.codegen.specs.Kinds.{blockKind}
 use Rattle.codegen.proofs.Walk.{below-of, expression-of, ended}
 use Rattle.codegen.proofs.Children.{child-seen, walk-requires, into-of}
 use Rattle.codegen.proofs.Operands.{register-word}
+use Rattle.codegen.proofs.Branches.{by-answer}
 use Rattle.codegen.proofs.flat.peek_into.Reads as peek-into-reads
 use Rattle.codegen.proofs.lower_expression.lower_block.Reads as lower-block
 use Rattle.codegen.proofs.lower_expression.lower_materializing.Reads as lower-materializing
@@ -75,7 +76,7 @@ returns-3 t c =
     let absent-tail = eq-eqb _ _ (sym (at-tail .node-word .ensures) ∙ at-absent .if2 .taken) in
     let given = destOf-to (at-value .value-of .result) (omega (arith, few)) in
     let loaded = at-loaded .load-constant .ensures .0 tree in
-    rw (c .answered .ensures .0, c .answered .ensures .1)
+    by-answer _ _ _ _ _ _ (c .answered .ensures)
     (expression-of checked _ blockKind (start .pre .1 .1) _ _
     (then-by tree _ registerAt _ _ _ (destination .0 tree _ _ _) (at-value .before .before .is-refusal .ensures) (at-value .before .if1 .left) (at-value .value-of .ensures)
     (rw (absent-tail, ← given) (then tree _ registerAt _ _ _ (loaded _) (sym (at-asked .is-refusal2 .ensures) ∙ c .before .before .if3 .left)
@@ -148,7 +149,7 @@ returns-5 t c =
     let tried = at-tried .peek-into .ensures in
     let walked = at-walked .lower-materializing .ensures in
     let tail = rw (at-tail .node-word .ensures) at (into-of checked few (tried .1 .0) (λ e m h. tried .1 .1 _ e m checked h) (walked .0) (walked .1) (λ h. tried .0 _ _ checked h)) in
-    rw (c .answered2 .ensures .0, c .answered2 .ensures .1)
+    by-answer _ _ _ _ _ _ (c .answered2 .ensures)
     (expression-of checked _ blockKind (start .pre .1 .1) _ _
     (then-by tree _ registerAt _ _ _ (destination .0 tree _ _ _) (at-value .before .before .is-refusal .ensures) (at-value .before .if1 .left) (at-value .value-of .ensures)
     (rw some-tail (then tree _ registerAt _ _ _ tail (sym (at-asked .is-refusal3 .ensures) ∙ c .before .before .if4 .left)

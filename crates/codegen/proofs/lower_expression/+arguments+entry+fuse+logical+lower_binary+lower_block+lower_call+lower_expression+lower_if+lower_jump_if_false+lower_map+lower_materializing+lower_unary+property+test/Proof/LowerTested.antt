@@ -1,7 +1,7 @@
 -- `lower_tested`: the node's value in a register, by either way, and then its jump. Assumes nothing.
 use Prim.Native.Nat.{ℕ}
 use native.Mathlib.Omega.{arith}
-use mathlib.Core.Path.{_≡_, sym, _∙_, ap}
+use mathlib.Core.Path.{_≡_, refl, sym, _∙_, ap}
 use mathlib.Core.Logic.{⊎-elim}
 use lib.ListN.{length}
 use denote.Ref.{now}
@@ -16,6 +16,7 @@ use Rattle.lowering.specs.Lower.{lowerMaterializing, tested, lowerExpression}
 use Rattle.steps.specs.Answers.{registerAt, placeAt, settled, seen}
 use Rattle.steps.proofs.Words.{destOf-any}
 use Rattle.steps.proofs.Chains.{then-by, stop-by, then-emitted, stop-emitted, last, seen-word}
+use Rattle.codegen.proofs.Branches.{by-answer, fields}
 use Rattle.codegen.proofs.Conditions.{literal-value, answered-value, at-meeting}
 use Rattle.codegen.proofs.lower_expression.lower_expression.Reads as lower-expression
 use Rattle.codegen.proofs.lower_expression.test.Reads as lower-tested
@@ -91,10 +92,10 @@ returns-2 t c =
     let at-value = at-jump .before .before .before in
     let at-left = at-value .before in
     let at-asked = at-left .before in
-    let left = rw (at-emitted .before .reg-of .ensures) at (at-emitted .emit-instruction .ensures .0) in
-    rw (c .refused .ensures .0, c .refused .ensures .1)
+    let told = at-jump .jump-if .ensures _ ∙ fields _ (at-emitted .before .reg-of .ensures) refl refl in
+    by-answer _ _ _ _ _ _ (c .refused .ensures)
     (then-by _ _ registerAt _ _ _ (valued t (at-asked .before)) (at-asked .is-refusal .ensures) (at-left .if2 .left) (at-value .value-of .ensures)
-    (last _ (stop-emitted _ _ _ _ _ (at-jump .jump-if .ensures _) left placeAt (at-full .if3 .taken))))
+    (last _ (stop-emitted _ _ _ _ _ told (at-emitted .emit-instruction .ensures .0) placeAt (at-full .if3 .taken))))
 
 returns-3 : (t : ℕ) → lts.Need-returns-3 (calls t) (lower-tested-at t) lower-tested.Post
 unfolding tested settled
@@ -105,10 +106,10 @@ returns-3 t c =
     let at-value = at-jump .before .before .before in
     let at-left = at-value .before in
     let at-asked = at-left .before in
-    let left = rw (at-emitted .before .reg-of .ensures) at (at-emitted .emit-instruction .ensures .0) in
-    rw (c .answered .ensures .0, c .answered .ensures .1)
+    let told = at-jump .jump-if .ensures _ ∙ fields _ (at-emitted .before .reg-of .ensures) refl refl in
+    by-answer _ _ _ _ _ _ (c .answered .ensures)
     (then-by _ _ registerAt _ _ _ (valued t (at-asked .before)) (at-asked .is-refusal .ensures) (at-left .if2 .left) (at-value .value-of .ensures)
-    (last _ (then-emitted (tree t (at-asked .before)) _ _ _ _ (at-jump .jump-if .ensures _) left (at-room .if3 .left) (c .before .counted .ensures Refusal.Code)
+    (last _ (then-emitted (tree t (at-asked .before)) _ _ _ _ told (at-emitted .emit-instruction .ensures .0) (at-room .if3 .left) (c .before .counted .ensures Refusal.Code)
     (sym (seen-word _ placeAt _ _ (omega arith))))))
 
 pub lower-tested-proof : {M : Type 1} (t : ℕ) → lts.Closed (calls t) (lower-tested-at t) lower-tested.Post M
