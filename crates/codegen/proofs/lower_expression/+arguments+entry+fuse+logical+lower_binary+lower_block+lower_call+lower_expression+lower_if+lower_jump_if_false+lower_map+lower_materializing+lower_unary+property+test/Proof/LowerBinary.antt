@@ -65,7 +65,7 @@ module _ (t : ℕ) where
     abbrev tree : Tree
     tree = treeOf (now (at-start .args .nodes)) (now (at-start .args .list)) (now (at-start .args .names))
 
-    -- what was made where the destination is known
+    -- with the state s, what was made at the start
     abbrev made-with : State → Made
     made-with s = made (words (now (at-start .args .code))) (words (now (at-start .args .constants))) (words (now (at-start .args .marks))) s
 

@@ -188,9 +188,9 @@ module _ (t : ℕ) where
       (at-counted2 .before .if4 .left) (at-counted2 .counted2 .ensures Refusal.Code)
       (then-freed _ _ _ (c .before .give-back .ensures) (ended _ _ _ _ (few (at-destination (at-object read))))))))
 
-  -- the buffers stay as long as they were, from where the key was stored
-  abbrev object-of : lts.After-store-constant (calls t) (lower-property-at t) lower-property.Post → lts.After-lower-materializing (calls t) (lower-property-at t) lower-property.Post
-  object-of c = at-object (c .before .before .before)
+  -- the end of the object, from where the key was stored, and that place, from where the instruction was made
+  abbrev object-end : lts.After-store-constant (calls t) (lower-property-at t) lower-property.Post → lts.After-lower-materializing (calls t) (lower-property-at t) lower-property.Post
+  object-end c = at-object (c .before .before .before)
 
   abbrev stored : lts.After-emit-instruction (calls t) (lower-property-at t) lower-property.Post → lts.After-store-constant (calls t) (lower-property-at t) lower-property.Post
   stored c = c .before .before .before .before .before .before .before .before
@@ -214,23 +214,23 @@ lower-property-proof t =
     (λ c κs. search needs)
     (λ c κs. search needs)
     (λ c κs. search needs)
-    (λ c. lengths t (object-of t (c .before .before .before .before)) .0)
-    (λ c. let at-stored = c .before .before .before .before in at-stored .store-constant .kept .0 ∙ lengths t (object-of t at-stored) .1 .0)
-    (λ c. lengths t (object-of t (c .before .before .before .before)) .1 .1)
+    (λ c. lengths t (object-end t (c .before .before .before .before)) .0)
+    (λ c. let at-stored = c .before .before .before .before in at-stored .store-constant .kept .0 ∙ lengths t (object-end t at-stored) .1 .0)
+    (λ c. lengths t (object-end t (c .before .before .before .before)) .1 .1)
     (returns-3 t)
     (λ c κs. search needs)
     (λ c κs. search needs)
     (λ c κs. search needs)
     (λ c κs. search needs)
     (λ c κs. search needs)
-    (λ c. let at-emitted = c .before .before .before .before in at-emitted .emit-instruction .kept .0 ∙ lengths t (object-of t (stored t at-emitted)) .0)
-    (λ c. let at-stored = stored t (c .before .before .before .before) in at-stored .store-constant .kept .0 ∙ lengths t (object-of t at-stored) .1 .0)
-    (λ c. lengths t (object-of t (stored t (c .before .before .before .before))) .1 .1)
+    (λ c. let at-emitted = c .before .before .before .before in at-emitted .emit-instruction .kept .0 ∙ lengths t (object-end t (stored t at-emitted)) .0)
+    (λ c. let at-stored = stored t (c .before .before .before .before) in at-stored .store-constant .kept .0 ∙ lengths t (object-end t at-stored) .1 .0)
+    (λ c. lengths t (object-end t (stored t (c .before .before .before .before))) .1 .1)
     (returns-4 t)
     (λ c κs. search needs)
     (λ c κs. search needs)
     (λ c κs. search needs)
-    (λ c. let at-emitted = c .before .before .before .before .before .before .before in at-emitted .emit-instruction .kept .0 ∙ lengths t (object-of t (stored t at-emitted)) .0)
-    (λ c. let at-stored = stored t (c .before .before .before .before .before .before .before) in at-stored .store-constant .kept .0 ∙ lengths t (object-of t at-stored) .1 .0)
-    (λ c. lengths t (object-of t (stored t (c .before .before .before .before .before .before .before))) .1 .1)
+    (λ c. let at-emitted = c .before .before .before .before .before .before .before in at-emitted .emit-instruction .kept .0 ∙ lengths t (object-end t (stored t at-emitted)) .0)
+    (λ c. let at-stored = stored t (c .before .before .before .before .before .before .before) in at-stored .store-constant .kept .0 ∙ lengths t (object-end t at-stored) .1 .0)
+    (λ c. lengths t (object-end t (stored t (c .before .before .before .before .before .before .before))) .1 .1)
     (returns-5 t)

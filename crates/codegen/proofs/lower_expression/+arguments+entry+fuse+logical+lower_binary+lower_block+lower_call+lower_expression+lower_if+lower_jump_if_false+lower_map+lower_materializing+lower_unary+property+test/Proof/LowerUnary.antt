@@ -177,9 +177,9 @@ module _ (t : ℕ) where
       (then-emitted (tree (all-read read)) _ _ _ _ told (at-emitted .emit-instruction .ensures .0) (at-counted .before .if3 .left) (at-counted .counted .ensures Refusal.Code)
       (then-freed _ _ _ (c .before .give-back .ensures) (ended _ _ _ _ (few (at-destination (at-operand read)))))))
 
-  -- the operand's end, from where the instruction was made
-  abbrev operand-of : lts.After-emit-instruction (calls t) (lower-unary-at t) lower-unary.Post → lts.After-lower-materializing (calls t) (lower-unary-at t) lower-unary.Post
-  operand-of c = operand-walked (c .before .before .before .before .before .before .before .before)
+  -- the end of the operand, from where the instruction was made
+  abbrev operand-end : lts.After-emit-instruction (calls t) (lower-unary-at t) lower-unary.Post → lts.After-lower-materializing (calls t) (lower-unary-at t) lower-unary.Post
+  operand-end c = operand-walked (c .before .before .before .before .before .before .before .before)
 
 pub lower-unary-proof : {M : Type 1} (t : ℕ) → lts.Closed (calls t) (lower-unary-at t) lower-unary.Post M
 lower-unary-proof t =
@@ -202,14 +202,14 @@ lower-unary-proof t =
     (λ c κs. search needs)
     (λ c κs. search needs)
     (λ c κs. search needs)
-    (λ c. let at-emitted = c .before .before .before .before in at-emitted .emit-instruction .kept .0 ∙ lengths t (operand-of t at-emitted) .0)
-    (λ c. lengths t (operand-of t (c .before .before .before .before)) .1 .0)
-    (λ c. lengths t (operand-of t (c .before .before .before .before)) .1 .1)
+    (λ c. let at-emitted = c .before .before .before .before in at-emitted .emit-instruction .kept .0 ∙ lengths t (operand-end t at-emitted) .0)
+    (λ c. lengths t (operand-end t (c .before .before .before .before)) .1 .0)
+    (λ c. lengths t (operand-end t (c .before .before .before .before)) .1 .1)
     (returns-3 t)
     (λ c κs. search needs)
     (λ c κs. search needs)
     (λ c κs. search needs)
-    (λ c. let at-emitted = c .before .before .before .before .before .before .before in at-emitted .emit-instruction .kept .0 ∙ lengths t (operand-of t at-emitted) .0)
-    (λ c. lengths t (operand-of t (c .before .before .before .before .before .before .before)) .1 .0)
-    (λ c. lengths t (operand-of t (c .before .before .before .before .before .before .before)) .1 .1)
+    (λ c. let at-emitted = c .before .before .before .before .before .before .before in at-emitted .emit-instruction .kept .0 ∙ lengths t (operand-end t at-emitted) .0)
+    (λ c. lengths t (operand-end t (c .before .before .before .before .before .before .before)) .1 .0)
+    (λ c. lengths t (operand-end t (c .before .before .before .before .before .before .before)) .1 .1)
     (returns-4 t)
