@@ -1,17 +1,18 @@
--- The laws by which lower_map, lower_entry and set_property do what the clauses of a map say: a property store by its two fields, an entry by its key, and the
+-- The laws by which lower_map, entry, flat_entry and set_property do what the clauses of a map say: a property store by its two fields, an entry by its key, and the
 -- entries one by one. Assumes nothing.
-use Prim.Native.Nat.{ℕ, zero, suc, _+_, _*_, _-_, _<_}
+use Prim.Native.Nat.{ℕ, zero, suc, _+_, _*_, _-_, _<_, _≤_}
 use native.Mathlib.Omega.{arith}
-use native.Mathlib.Decide.{ℕ-discrete}
+use native.Mathlib.Decide.{ℕ-discrete, decLt}
 use mathlib.Core.Path.{_≡_, refl, sym, _∙_}
 use mathlib.Core.Logic.{_≢_}
-use mathlib.Core.Bool.{Bool, true, false, cond}
+use mathlib.Core.Bool.{Bool, true, false, cond, not, _&&_, _||_, false≢true, true≢false}
 use mathlib.Core.List.{List, [], _∷_}
 use mathlib.Core.Option.{none, some}
-use lib.Dec.{eqb}
+use lib.Dec.{eqb, ltb}
 use lib.ListN.{getD}
-use borrow.Author.Tests.{eq-eqb, ne-eqb}
+use borrow.Author.Tests.{lt-ltb, le-ltb, eqb-true, eqb-false, eq-eqb, ne-eqb}
 use Rattle.diagnostics.specs.declared.Refusal.{Refusal}
+use Rattle.words.specs.Words.{words}
 use Rattle.words.specs.Records.{buffer, appended, full}
 use Rattle.environment.specs.declared.Register.{Register}
 use Rattle.syntax.specs.declared.ast.Node.{Node}
@@ -22,8 +23,9 @@ use Rattle.runtime.specs.Operands.{regOf}
 use Rattle.runtime.specs.Instruction.{wordsOf}
 use Rattle.runtime.specs.Function.{storeConstant}
 use Rattle.lowering.specs.declared.Dest.{Dest}
+use Rattle.lowering.specs.declared.State.{State}
 use Rattle.lowering.specs.Tree.{Tree, node}
-use Rattle.lowering.specs.Walk.{Made, Outcome, ends, stops, Walk, bind, _>>=_, ret}
+use Rattle.lowering.specs.Walk.{Made, made, Outcome, ends, stops, Walk, bind, _>>=_, ret}
 use Rattle.lowering.specs.Steps.{freeTemp, withConstants, emit, store}
 use Rattle.lowering.specs.Literals.{isLiteral, literal}
 use Rattle.lowering.specs.Lower.{Source, source, register, constant, nameOf, materialized, lowerMaterializing, storeNamed, storeKeyed, lowerEntry, lowerEntries, lowerExpression}
@@ -31,8 +33,9 @@ use Rattle.lowering.proofs.Destinations.{GivesRegister, expression-register, no
 use Rattle.steps.specs.Answers.{registerAt, literalWord, operandAt, sourceAt, placeAt, wordEnd, refusalWord, isRefusal, valueOf, namesNode, errorAt, settled, seen}
 use Rattle.steps.proofs.Chains.{got, stop-by, nested, seen-given, seen-refusal, then-stored, stop-stored}
 use Rattle.steps.proofs.Words.{regOf-registerAt, source-operand}
-use Rattle.codegen.specs.Ready.{EntryBelow}
+use Rattle.codegen.specs.Ready.{InArena}
 use Rattle.codegen.specs.Kinds.{nameKind, keyOperand, setOpcode}
+use Rattle.codegen.proofs.FlatNodes.{then-leaf}
 
 -- ---- a property store
 
@@ -97,13 +100,53 @@ module _ (t : Tree) {B : Type 0} (m : Made) (c : Operand) (src n : ℕ) (k : ℕ
 
 -- ---- an entry by its key
 
--- the node whose value an entry gets is below the map's
-pub child-below : (i key value child : ℕ) → EntryBelow i key value → child ≡ cond (eqb value absent) key value → child < i
-child-below i key value child below is = rw is (go (ℕ-discrete value absent))
+-- the node whose value an entry gets is in the arena
+pub child-inside : (nodes : List ℕ) (key value child : ℕ) → InArena nodes key → (value ≢ absent → InArena nodes value) → child ≡ cond (eqb value absent) key value → InArena nodes child
+child-inside nodes key value child key-inside value-inside is = rw is (go (ℕ-discrete value absent))
   where
-    go : Dec (value ≡ absent) → cond (eqb value absent) key value < i
-    go (yes h) = rw (eq-eqb value absent h) (below .0)
-    go (no h) = rw (ne-eqb value absent h) (below .1 h)
+    go : Dec (value ≡ absent) → InArena nodes (cond (eqb value absent) key value)
+    go (yes h) = rw (eq-eqb value absent h) key-inside
+    go (no h) = rw (ne-eqb value absent h) (value-inside h)
+
+-- it is the value, if there is one
+pub valued : (key value : ℕ) → value ≢ absent → value ≡ cond (eqb value absent) key value
+valued key value h = rw (ne-eqb value absent h)
+
+-- there is one if it is below a node
+pub below-absent : (i value : ℕ) → value < i → i < wordEnd → value ≢ absent
+below-absent i value below small e = omega arith
+
+pub past-name : {kind : ℕ} → nameKind < kind → kind ≢ nameKind
+past-name past e = omega arith
+
+-- what the program asks of an entry, by the kinds that it read: whether a key alone is no name
+module _ {kind k : ℕ} (read : k ≡ kind) (value : ℕ) where
+  pub alone : not (eqb k nameKind) && eqb value absent ≡ true → (kind ≢ nameKind) × (value ≡ absent)
+  alone h = go (ℕ-discrete kind nameKind)
+    where
+      go : Dec (kind ≡ nameKind) → (kind ≢ nameKind) × (value ≡ absent)
+      go (yes e) = absurd (false≢true (rw (read, eq-eqb kind nameKind e) at h))
+      go (no e) = (e, eqb-true value absent (rw (read, ne-eqb kind nameKind e) at h))
+
+  module _ (h : not (eqb k nameKind) && eqb value absent ≡ false) where
+    pub not-alone : kind ≢ nameKind → value ≢ absent
+    not-alone e = eqb-false value absent (rw (read, ne-eqb kind nameKind e) at h)
+
+    -- and whether the key and the node whose value it gets are leaves: if not, there is a value
+    pub has-value : {other o : ℕ} → o ≡ other → (value ≡ absent → other ≡ kind) → ltb nameKind k || ltb nameKind o ≡ true → value ≢ absent
+    has-value {other} read′ same deep e = go (ℕ-discrete kind nameKind)
+      where
+        go : Dec (kind ≡ nameKind) → ⊥
+        go (yes n) = false≢true (rw (read, read′, same e, n) at deep)
+        go (no n) = not-alone n e
+
+pub both-leaves : {a b k o : ℕ} → k ≡ a → o ≡ b → ltb nameKind k || ltb nameKind o ≡ false → (a ≤ nameKind) × (b ≤ nameKind)
+both-leaves {a} {b} read read′ h = go (decLt nameKind a) (decLt nameKind b)
+  where
+    go : Dec (nameKind < a) → Dec (nameKind < b) → (a ≤ nameKind) × (b ≤ nameKind)
+    go (yes x) y = absurd (true≢false (rw (read, lt-ltb nameKind a x) at h))
+    go (no x) (yes y) = absurd (true≢false (rw (read, read′, le-ltb nameKind a (omega arith), lt-ltb nameKind b y) at h))
+    go (no x) (no y) = (omega arith, omega arith)
 
 module _ (t : Tree) (E : ℕ → Dest → Walk Operand) (d : Register) where
   -- a name that is looked up is in a register
@@ -138,7 +181,7 @@ module _ (t : Tree) (E : ℕ → Dest → Walk Operand) (d : Register) where
       go (no h) = rw (ne-eqb value absent h) (simp (constant-key name))
 
 -- a name key: the node whose value it gets, and the store, with the name pooled
-pub name-key : (t : Tree) (d : Register) (key value child : ℕ) (m : Made) {r : Outcome ℕ} → nodeWord (t .nodes) key 0 ≡ nameKind → child ≡ cond (eqb value absent) key value →
+name-key : (t : Tree) (d : Register) (key value child : ℕ) (m : Made) {r : Outcome ℕ} → nodeWord (t .nodes) key 0 ≡ nameKind → child ≡ cond (eqb value absent) key value →
     settled (bind (lowerExpression freeTemp t child Dest.Any m)
     (λ src. storeKeyed t (lowerExpression freeTemp t) d (sourceAt (keyOperand (node t key)) literalWord) (source src))) ≡ r →
     settled (lowerEntry t (lowerExpression freeTemp t) d key value (nameOf (node t key)) m) ≡ r
@@ -188,6 +231,22 @@ module _ (t : Tree) (E : ℕ → Dest → Walk Operand) (d : Register) (key valu
       settled (storeKeyed t E d (source (operandAt (node t key) src1)) (source (operandAt (node t value) src2)) m) ≡ r
   store-both src1 src2 q = rw (source-operand (node t key) src1, source-operand (node t value) src2) (rw (other-key .1) at q)
 
+-- a key that is a name or a literal: the node whose value it gets, and the store, with the key pooled
+pub leaf-key : (t : Tree) (d : Register) (key value child : ℕ) (m : Made) {r : Outcome ℕ} → nodeWord (t .nodes) key 0 ≤ nameKind → (nodeWord (t .nodes) key 0 ≢ nameKind → value ≢ absent) →
+    child ≡ cond (eqb value absent) key value →
+    settled (bind (lowerExpression freeTemp t child Dest.Any m)
+    (λ src. storeKeyed t (lowerExpression freeTemp t) d (sourceAt (keyOperand (node t key)) literalWord) (source src))) ≡ r →
+    settled (lowerEntry t (lowerExpression freeTemp t) d key value (nameOf (node t key)) m) ≡ r
+leaf-key t d key value child m {r} few has same q = go (ℕ-discrete (nodeWord (t .nodes) key 0) nameKind)
+  where
+    go : Dec (nodeWord (t .nodes) key 0 ≡ nameKind) → settled (lowerEntry t (lowerExpression freeTemp t) d key value (nameOf (node t key)) m) ≡ r
+    go (yes e) = name-key t d key value child m e same q
+    go (no e) =
+        let is : child ≡ value = same ∙ sym (valued key value (has e)) in
+        key-and-value t (lowerExpression freeTemp t) d key value m e (has e)
+        (then-leaf t key literalWord ((λ h. absurd (e h)), (λ h. refl)) m _ few (λ h. omega arith)
+        (rw (source-operand (node t key) literalWord) (rw (other-key t (lowerExpression freeTemp t) d key value m e .1, is) at q)))
+
 -- ---- the entries of a map
 
 -- of count, i are done, and the rest gives what the whole gives
@@ -213,3 +272,9 @@ module _ (t : Tree) (E : ℕ → Dest → Walk Operand) (d : Register) (first co
 
     pub entries-stop : {B : Type 0} (k : Unit {0} → Walk B) (gives : ℕ → B) → b ≡ true → settled (bind (lowerEntries t E d first count 0 m₀) k) ≡ seen t gives m₁ a
     entries-stop k gives taken = rw next-entry (nested _ _ k (stop-by t _ placeAt m₁ a _ e gives told taken))
+
+-- where two ways meet, by the buffers' bytes and the state
+pub at-next : (t : Tree) (E : ℕ → Dest → Walk Operand) (d : Register) (first n i : ℕ) {code code₁ pool pool₁ marks marks₁ : List ℕ} {s s₁ : State} {o : Outcome Unit} →
+    code ≡ code₁ → pool ≡ pool₁ → marks ≡ marks₁ → s ≡ s₁ →
+    o ≡ lowerEntries t E d first n i (made (words code₁) (words pool₁) (words marks₁) s₁) → o ≡ lowerEntries t E d first n i (made (words code) (words pool) (words marks) s)
+at-next t E d first n i e f g h q = rw (e, f, g, h) q

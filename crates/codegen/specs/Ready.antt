@@ -1,13 +1,12 @@
 -- What a function of the walk asks for, and what it does: one predicate for all of them.
 use Prim.Native.Nat.{ℕ, _≤_, _<_}
 use mathlib.Core.Path.{_≡_}
-use mathlib.Core.Logic.{_≢_}
 use mathlib.Core.Bool.{Bool}
 use mathlib.Core.List.{List}
 use lib.ListN.{length}
 use Rattle.words.specs.Words.{words}
 use Rattle.words.specs.Records.{capacity}
-use Rattle.syntax.specs.Ast.{nodeWidth, nodeWord, absent}
+use Rattle.syntax.specs.Ast.{nodeWidth, nodeWord}
 use Rattle.lowering.specs.declared.State.{State}
 use Rattle.lowering.specs.Tree.{Tree, treeOf}
 use Rattle.lowering.specs.Checked.{Checked}
@@ -31,9 +30,9 @@ Ready nodes list names i = Checked (treeOf nodes list names) × ((length (words 
 abbrev pub ReadyTo : List ℕ → List ℕ → List ℕ → ℕ → ℕ → Type 0
 ReadyTo nodes list names i dest = Ready nodes list names i × (dest ≤ any)
 
--- a map's entry: its key, and its value if there is one, are lower
+-- a map's entry that has a value: its key and its value are lower
 abbrev pub EntryBelow : ℕ → ℕ → ℕ → Type 0
-EntryBelow i key value = (key < i) × (value ≢ absent → value < i)
+EntryBelow i key value = (key < i) × (value < i)
 
 -- the program lowers as the walk w of the definition: what it answers, and the words that it leaves of the three buffers
 abbrev pub Lowers : {A : Type 0} → (Tree → ℕ → A) → (Tree → Walk A) → (nodes list names code constants marks code′ constants′ marks′ : List ℕ) → State → Lowered → Type 0

@@ -1,5 +1,6 @@
 // Flat nodes: literals, names, and operators on these, not on two literals. They are lowered without the walk, on two counts and a register that is given.
-// `peek`, `peek_into` and `peek_jump` try a child; `binary_operation` and `fused_jump` end an operator whose operands the walk has lowered.
+// `peek`, `peek_into` and `peek_jump` try a child, and `flat_entry` an entry of a map; `binary_operation` and `fused_jump` end an operator whose operands the
+// walk has lowered.
 ghost use mathlib.Core.Path.{_≡_};
 ghost use mathlib.Core.Logic.{_≢_};
 ghost use mathlib.Core.Bool.{Bool, true, false, cond, _&&_};
@@ -14,7 +15,7 @@ ghost use Rattle.environment.specs.declared.RegisterSet.{RegisterSet};
 ghost use Rattle.environment.specs.Environment.{lookup};
 ghost use Rattle.syntax.specs.declared.ops.Comparison.{Comparison};
 ghost use Rattle.syntax.specs.Ops.{binaryOp};
-ghost use Rattle.syntax.specs.Ast.{nodeAt};
+ghost use Rattle.syntax.specs.Ast.{absent, nodeAt};
 ghost use Rattle.runtime.specs.declared.operand.Operand.{Operand};
 ghost use Rattle.lowering.specs.declared.Dest.{Dest};
 ghost use Rattle.lowering.specs.Tree.{Tree, treeOf};
@@ -23,10 +24,10 @@ ghost use Rattle.lowering.specs.Walk.{Made, Walk, made, ret};
 ghost use Rattle.lowering.specs.Operators.{comparison};
 ghost use Rattle.lowering.specs.Literals.{literal};
 ghost use Rattle.lowering.specs.Steps.{freeTemp, loadConstant};
-ghost use Rattle.lowering.specs.Lower.{binarySources, fusedSources, jumpNode, lowerExpression, lowerMaterializing};
+ghost use Rattle.lowering.specs.Lower.{binarySources, fusedSources, nameOf, lowerEntry, jumpNode, lowerExpression, lowerMaterializing};
 ghost use Rattle.steps.specs.Answers.{registerAt, any, literalWord, operandAt, sourceAt, placeAt, settled, seen, counted, isInner, valueOf, wordEnd, DestOrRefusal, WordOrRefusal};
 ghost use Rattle.codegen.specs.Ready.{InArena, wordOf};
-ghost use Rattle.codegen.specs.Kinds.{nameKind, binaryKind};
+ghost use Rattle.codegen.specs.Kinds.{nameKind, binaryKind, keyOperand, setOpcode};
 ghost use Rattle.codegen.specs.Flat.{Falling, Seen, Given, areLeaves, isFlat, foundAt, LocalOr, askOperand, askRegister, askInto, needing, flatNode, Untouched};
 use crate::read::find;
 use crate::read::literal;
@@ -39,6 +40,7 @@ use operators::jump_if;
 use runtime::function::emit_instruction;
 use runtime::function::store_constant;
 use runtime::opcode;
+use runtime::operand::Operand;
 use steps::answer::Emitted;
 use steps::answer::LITERAL;
 use steps::answer::Lowered;
@@ -48,7 +50,9 @@ use steps::answer::number_at;
 use steps::answer::refusal_at;
 use steps::answer::reg_of;
 use steps::sources::binary_sources;
+use steps::sources::field_of;
 use steps::sources::fused_sources;
+use steps::sources::pooled_by;
 use syntax::ast::ABSENT;
 use syntax::kind;
 use words::FULL;
@@ -518,6 +522,89 @@ pub(crate) fn peek_jump(
         state: s,
         answer: f.answer,
     }
+}
+
+// The node whose value an entry gets: its value, or the name that is its key.
+fn value_or_key(key: u32, value: u32) -> u32
+    ensures { λ r. ⌜ r ≡ cond (eqb value absent) key value ⌝ }
+{
+    if value == ABSENT { key } else { value }
+}
+
+// A key that is pooled: a literal, or the name itself as a string.
+pub(crate) fn key_operand(nodes: &[u8], key: u32) -> Operand
+    requires { ⌜ InArena (now nodes) key ⌝ }
+    ensures { λ r. ⌜ r ≡ keyOperand (nodeAt (words (now (nodes .entry))) key) ⌝ }
+{
+    if node_word(nodes, key, 0) == kind::IDENTIFIER {
+        return Operand::String(node_word(nodes, key, 1));
+    }
+    literal(nodes, key)
+}
+
+pub(crate) fn set_opcode(src1: u32, src2: u32) -> u32
+    ensures { λ r. ⌜ r ≡ setOpcode src1 src2 ⌝ }
+{
+    if src1 == LITERAL {
+        if src2 == LITERAL {
+            return opcode::SET_PROPERTY_KK;
+        }
+        return opcode::SET_PROPERTY_KR;
+    }
+    if src2 == LITERAL {
+        return opcode::SET_PROPERTY_RK;
+    }
+    opcode::SET_PROPERTY
+}
+
+// An entry of leaves, or a key alone, on two counts: "Literals left over are pooled last, key before value." Any other entry is left to the walk, and nothing
+// is done.
+pub(crate) fn flat_entry(
+    nodes: &[u8],
+    names: &[u8],
+    code: &mut [u8],
+    constants: &mut [u8],
+    instructions: u32,
+    pooled: u32,
+    d: u32,
+    key: u32,
+    value: u32,
+) -> Emitted
+    requires { ⌜ (length (words (now names)) ≤ 256) × (InArena (now nodes) key × (value ≢ absent → InArena (now nodes) value)) ⌝ }
+    ensures step { λ r. ⌜ ((list : List ℕ) (rs : RegisterSet) (n : ℕ) (m : List ℕ) → isInner (r .answer) ≡ false →
+        settled (lowerEntry (treeOf (now (nodes .entry)) list (now (names .entry))) (lowerExpression freeTemp (treeOf (now (nodes .entry)) list (now (names .entry)))) (registerAt d) key value (nameOf (nodeAt (words (now (nodes .entry))) key)) (made (words (now (code .entry))) (words (now (constants .entry))) m (counted rs instructions pooled n)))
+        ≡ seen (treeOf (now (nodes .entry)) list (now (names .entry))) placeAt (made (words (now (code .exit))) (words (now (constants .exit))) m (counted rs (r .instructions) (r .constants) n)) (r .answer)) ⌝ }
+    ensures inner { λ r. ⌜ (isInner (r .answer) ≡ true →
+        (r ≡ record { instructions = instructions; constants = pooled; answer = wordEnd + key }) × ((words (now (code .exit)) ≡ words (now (code .entry))) × ((words (now (constants .exit)) ≡ words (now (constants .entry))) × (value ≢ absent)))) ⌝ }
+{
+    let kind = node_word(nodes, key, 0);
+    if (kind != kind::IDENTIFIER) & (value == ABSENT) {
+        return left_alone(instructions, pooled, refusal_at(Refusal::Key, key));
+    }
+    let child = value_or_key(key, value);
+    if (kind::IDENTIFIER < kind) | (kind::IDENTIFIER < node_word(nodes, child, 0)) {
+        return left_alone(instructions, pooled, inner(key));
+    }
+    let src = leaf_operand(nodes, names, child);
+    if src == NONE {
+        return left_alone(instructions, pooled, refusal_at(Refusal::Undeclared, child));
+    }
+    let first = store_constant(constants, pooled, key_operand(nodes, key));
+    if first == FULL {
+        return left_alone(instructions, pooled, refusal_at(Refusal::Constants, 0));
+    }
+    let count = counted(pooled, first);
+    let second = field_of(constants, count, src, literal(nodes, child));
+    if second == FULL {
+        return left_alone(instructions, count, refusal_at(Refusal::Constants, 0));
+    }
+    let both = pooled_by(count, src, second);
+    let opcode = set_opcode(LITERAL, src);
+    let n = emit_instruction(code, instructions, opcode, reg_of(d), first, second);
+    if n == FULL {
+        return left_alone(instructions, both, refusal_at(Refusal::Code, 0));
+    }
+    left_alone(counted(instructions, n), both, n as u64)
 }
 
 // The operator of a node on two sources that the walk has given, into d, where not both are literals. What they held is given back afterwards.

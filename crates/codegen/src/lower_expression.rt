@@ -3,14 +3,13 @@
 // (`peek`, `peek_into`), and walked if it is not flat. A state that is passed on is a copy of its own: the walk's own state then stays in machine registers.
 ghost use mathlib.Core.Path.{_≡_};
 ghost use mathlib.Core.Logic.{_≢_, _⊎_};
-ghost use mathlib.Core.Bool.{true, false, cond};
+ghost use mathlib.Core.Bool.{true, false};
 ghost use mathlib.Core.List.{List, [], _∷_};
 ghost use Prim.Native.Nat.{ℕ, _≤_};
-ghost use lib.Dec.{eqb};
 ghost use lib.ListN.{length};
 ghost use Rattle.words.specs.Words.{words};
 ghost use Rattle.syntax.specs.Ops.{binaryOp, unaryOp};
-ghost use Rattle.syntax.specs.Ast.{absent, nodeAt};
+ghost use Rattle.syntax.specs.Ast.{nodeAt};
 ghost use Rattle.runtime.specs.declared.instruction.Instruction.{Instruction};
 ghost use Rattle.runtime.specs.Instruction.{wordsOf};
 ghost use Rattle.lowering.specs.Operators.{unary};
@@ -23,14 +22,17 @@ ghost use Rattle.lowering.specs.Lower.{nameOf, storeKeyed, lowerArguments, lowe
 ghost use Rattle.steps.specs.Answers.{any, registerAt, destOf, operandAt, sourceAt, placeAt, unitAt, settled, seen, isInner, valueOf, DestOrRefusal};
 ghost use Rattle.codegen.specs.Ready.{InArena, wordOf, Ready, ReadyTo, EntryBelow, Lowers};
 ghost use Rattle.codegen.specs.Flat.{Falling};
-ghost use Rattle.codegen.specs.Kinds.{nameKind, binaryKind, unaryKind, notKind, andKind, orKind, ifKind, blockKind, callKind, propertyKind, mapKind, onlyOperand, keyOperand, setOpcode, twoLiterals, isCompared};
+ghost use Rattle.codegen.specs.Kinds.{nameKind, binaryKind, unaryKind, notKind, andKind, orKind, ifKind, blockKind, callKind, propertyKind, mapKind, onlyOperand, keyOperand, twoLiterals, isCompared};
 use crate::flat::OPERAND;
 use crate::flat::REGISTER;
 use crate::flat::binary_operation;
+use crate::flat::flat_entry;
 use crate::flat::fused_jump;
+use crate::flat::key_operand;
 use crate::flat::peek;
 use crate::flat::peek_into;
 use crate::flat::peek_jump;
+use crate::flat::set_opcode;
 use crate::read::find;
 use crate::read::literal;
 use crate::read::node_word;
@@ -696,31 +698,52 @@ fn lower_map(
         let at = first + 2 * (i as usize);
         let key = word(list, at);
         let value = word(list, at + 1);
-        let u = s;
-        let r = entry(
+        let f = flat_entry(
             nodes,
-            list,
             names,
             code,
             constants,
-            marks,
-            u,
-            node,
+            s.instructions,
+            s.constants,
             d,
             key,
             value,
         );
-        if is_refusal(r.answer) {
-            return r;
+        let answer = f.answer;
+        if is_inner(answer) {
+            let u = s;
+            let r = entry(
+                nodes,
+                list,
+                names,
+                code,
+                constants,
+                marks,
+                u,
+                node,
+                d,
+                key,
+                value,
+            );
+            if is_refusal(r.answer) {
+                return r;
+            }
+            let s1 = r.state;
+            s = s1;
+        } else {
+            s.instructions = f.instructions;
+            s.constants = f.constants;
+            if is_refusal(answer) {
+                return Lowered { state: s, answer };
+            }
         }
-        let s1 = r.state;
-        s = s1;
         i += 1;
     }
     answered(s, d)
 }
 
-// One entry. A name key is not looked up if it has a value, and is pooled after the value is lowered; any other key is lowered before its value.
+// One entry that was left to the walk, so it has a value. A key that is a name or a literal is pooled after the value is lowered; any other key is lowered
+// before its value.
 fn entry(
     nodes: &[u8],
     list: &[u8],
@@ -738,20 +761,15 @@ fn entry(
     ensures { λ r. ⌜ Lowers (λ t. placeAt) (λ t. lowerEntry t (lowerExpression freeTemp t) (registerAt d) key value (nameOf (nodeAt (t .nodes) key))) (now (nodes .entry)) (now (list .entry)) (now (names .entry))
         (now (code .entry)) (now (constants .entry)) (now (marks .entry)) (now (code .exit)) (now (constants .exit)) (now (marks .exit)) state r ⌝ }
 {
-    let kind = node_word(nodes, key, 0);
-    if kind == kind::IDENTIFIER {
-        let child = value_or_key(key, value);
-        let f1 = peek(nodes, names, code, constants, state, child, OPERAND);
+    if node_word(nodes, key, 0) <= kind::IDENTIFIER {
+        let f1 = peek(nodes, names, code, constants, state, value, OPERAND);
         let r1 = lower_materializing(nodes, list, names, code, constants, marks, state, f1, ANY);
         if is_refusal(r1.answer) {
             return r1;
         }
         let s1 = r1.state;
         let src = value_of(r1.answer);
-        return set_property(nodes, code, constants, s1, d, key, child, LITERAL, src);
-    }
-    if value == ABSENT {
-        return refused(state, Refusal::Key, key);
+        return set_property(nodes, code, constants, s1, d, key, value, LITERAL, src);
     }
     let f2 = peek(nodes, names, code, constants, state, key, OPERAND);
     let r2 = lower_materializing(nodes, list, names, code, constants, marks, state, f2, ANY);
@@ -768,39 +786,6 @@ fn entry(
     let src2 = value_of(r3.answer);
     let s3 = r3.state;
     set_property(nodes, code, constants, s3, d, key, value, src1, src2)
-}
-
-// The node whose value an entry gets: its value, or the name that is its key.
-fn value_or_key(key: u32, value: u32) -> u32
-    ensures { λ r. ⌜ r ≡ cond (eqb value absent) key value ⌝ }
-{
-    if value == ABSENT { key } else { value }
-}
-
-// A key that is pooled: a literal, or the name itself as a string.
-fn key_operand(nodes: &[u8], key: u32) -> Operand
-    requires { ⌜ InArena (now nodes) key ⌝ }
-    ensures { λ r. ⌜ r ≡ keyOperand (nodeAt (words (now (nodes .entry))) key) ⌝ }
-{
-    if node_word(nodes, key, 0) == kind::IDENTIFIER {
-        return Operand::String(node_word(nodes, key, 1));
-    }
-    literal(nodes, key)
-}
-
-fn set_opcode(src1: u32, src2: u32) -> u32
-    ensures { λ r. ⌜ r ≡ setOpcode src1 src2 ⌝ }
-{
-    if src1 == LITERAL {
-        if src2 == LITERAL {
-            return opcode::SET_PROPERTY_KK;
-        }
-        return opcode::SET_PROPERTY_KR;
-    }
-    if src2 == LITERAL {
-        return opcode::SET_PROPERTY_RK;
-    }
-    opcode::SET_PROPERTY
 }
 
 // The end of an entry: "Literals left over are pooled last, key before value."

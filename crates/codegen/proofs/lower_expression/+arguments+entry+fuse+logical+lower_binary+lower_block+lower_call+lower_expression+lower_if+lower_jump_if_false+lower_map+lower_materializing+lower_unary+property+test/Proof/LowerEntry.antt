@@ -1,22 +1,20 @@
--- The needs of `lower_entry`.
+-- The needs of `entry`.
 use Prim.Native.Nat.{ℕ}
 use native.Mathlib.Omega.{arith}
-use mathlib.Core.Path.{sym, _∙_}
+use mathlib.Core.Path.{_∙_}
 use borrow.Author.Needs.{needs}
 use Rattle.steps.specs.Answers.{placeAt}
 use Rattle.steps.proofs.Chains.{then-by, stop-by}
 use Rattle.steps.proofs.Words.{source-operand}
 use Rattle.codegen.proofs.Children.{child-seen, child-asked, child-given}
-use Rattle.codegen.proofs.Entries.{child-below, name-key, key-alone, key-and-value, store-both}
+use Rattle.codegen.proofs.Entries.{below-absent, past-name, valued, leaf-key, key-and-value, store-both}
 use Rattle.codegen.proofs.lower_expression.entry.Reads as lower-entry
 use Rattle.codegen.proofs.lower_expression.lower_materializing.Reads as lower-materializing
 use Rattle.codegen.proofs.lower_expression.+arguments+entry+fuse+logical+lower_binary+lower_block+lower_call+lower_expression+lower_if+lower_jump_if_false+lower_map+lower_materializing+lower_unary+property+test.Lts-entry as lower-entry-lts
 use Rattle.codegen.proofs.flat.peek.Reads as peek-reads
 use Rattle.codegen.proofs.lower_expression.set_property.Reads as set-property-reads
-use Rattle.codegen.proofs.lower_expression.value_or_key.Reads as value-or-key-reads
 use Rattle.codegen.proofs.read.node_word.Reads as node-word-reads
 use Rattle.steps.proofs.answer.is_refusal.Reads as is-refusal-reads
-use Rattle.steps.proofs.answer.refused.Reads as refused-reads
 use Rattle.steps.proofs.answer.value_of.Reads as value-of-reads
 use Rattle.codegen.proofs.lower_expression.+arguments+entry+fuse+logical+lower_binary+lower_block+lower_call+lower_expression+lower_if+lower_jump_if_false+lower_map+lower_materializing+lower_unary+property+test.Proof.Measures.{lower-entry-at, lower-materializing-below}
 
@@ -24,8 +22,6 @@ abbrev pub calls : ℕ → lower-entry-lts.Claims
 calls t = (
   node-word-reads.Asked,
   node-word-reads.Learnt,
-  value-or-key-reads.Asked,
-  value-or-key-reads.Learnt,
   peek-reads.Asked,
   peek-reads.Learnt,
   lower-materializing-below t,
@@ -36,8 +32,6 @@ calls t = (
   value-of-reads.Learnt,
   set-property-reads.Asked,
   set-property-reads.Learnt,
-  refused-reads.Asked,
-  refused-reads.Learnt,
 )
 
 node-word-requires : (t : ℕ) → lower-entry-lts.Need-node-word-requires (calls t) (lower-entry-at t) lower-entry.Post
@@ -45,31 +39,32 @@ node-word-requires t c κs =
     let start = c .before .before .before .before .before .before in
     (omega (arith, start .pre .1 .0 .1 .1, start .pre .1 .1 .0), omega arith)
 
--- ---- a name key: one child
+-- ---- a key that is a name or a literal: one child
 
 peek-requires : (t : ℕ) → lower-entry-lts.Need-peek-requires (calls t) (lower-entry-at t) lower-entry.Post
 peek-requires t c κs =
-    let at-kind = c .before .before .before .before in
+    let at-kind = c .before .before .before in
     let start = at-kind .before .before .before .before .before .before .before in
-    (child-seen _ _ _ _ _ (start .pre .1 .0) (child-below _ _ _ _ (start .pre .1 .1) (c .before .before .value-or-key .ensures)), omega arith)
+    (child-seen _ _ _ _ _ (start .pre .1 .0) (start .pre .1 .1 .1), omega arith)
 
 lower-materializing-requires : (t : ℕ) → lower-entry-lts.Need-lower-materializing-requires (calls t) (lower-entry-at t) lower-entry.Post
 lower-materializing-requires t c κs =
     let at-tried = c .before .before .before .before .before .before .before in
-    let at-child = at-tried .before .before .before in
-    let at-kind = at-child .before .before in
+    let at-asked = at-tried .before .before .before in
+    let at-kind = at-asked .before in
     let start = at-kind .before .before .before .before .before .before .before in
-    child-asked _ _ _ _ _ (start .pre .1 .0) (child-below _ _ _ _ (start .pre .1 .1) (at-child .value-or-key .ensures)) _ t (omega (arith, start .pre .0)) (at-tried .peek .ensures .1 .1)
+    child-asked _ _ _ _ _ (start .pre .1 .0) (start .pre .1 .1 .1) _ t (omega (arith, start .pre .0)) (at-tried .peek .ensures .1 .1)
 
 returns : (t : ℕ) → lower-entry-lts.Need-returns (calls t) (lower-entry-at t) lower-entry.Post
 returns t c =
     let at-walked = c .before .before .before .before .before .before .before .before in
     let at-tried = at-walked .before .before .before .before .before .before .before .before in
-    let at-child = at-tried .before .before .before in
-    let at-kind = at-child .before .before in
+    let at-asked = at-tried .before .before .before in
+    let at-kind = at-asked .before in
     let start = at-kind .before .before .before .before .before .before .before in
     let child = child-given _ _ _ _ _ _ _ _ _ _ _ _ _ _ _ (start .pre .1 .0 .0) (at-tried .peek .ensures .0) (at-tried .peek .ensures .1 .1) (at-walked .lower-materializing .ensures) in
-    name-key _ _ _ _ _ _ (sym (at-kind .node-word .ensures) ∙ at-child .before .if1 .taken) (at-child .value-or-key .ensures)
+    let has = below-absent _ _ (start .pre .1 .1 .1) (omega (arith, start .fits .node)) in
+    leaf-key _ _ _ _ _ _ (rw (at-kind .node-word .ensures) at (at-asked .if1 .taken)) (λ e. has) (valued _ _ has)
     (stop-by _ _ _ _ _ _ child placeAt (c .before .is-refusal .ensures) (c .if2 .taken))
 
 set-property-requires : (t : ℕ) → lower-entry-lts.Need-set-property-requires (calls t) (lower-entry-at t) lower-entry.Post
@@ -77,10 +72,10 @@ set-property-requires t c κs =
     let at-refusal = c .before .before .before .before .before in
     let at-walked = at-refusal .before .before .before .before .before .before .before in
     let at-tried = at-walked .before .before .before .before .before .before .before .before in
-    let at-child = at-tried .before .before .before in
-    let at-kind = at-child .before .before in
+    let at-asked = at-tried .before .before .before in
+    let at-kind = at-asked .before in
     let start = at-kind .before .before .before .before .before .before .before in
-    (omega (arith, start .pre .1 .0 .1 .1, start .pre .1 .1 .0), omega (arith, child-below _ _ _ _ (start .pre .1 .1) (at-child .value-or-key .ensures), start .pre .1 .0 .1 .1))
+    (omega (arith, start .pre .1 .0 .1 .1, start .pre .1 .1 .0), omega (arith, start .pre .1 .1 .1, start .pre .1 .0 .1 .1))
 
 returns-2 : (t : ℕ) → lower-entry-lts.Need-returns-2 (calls t) (lower-entry-at t) lower-entry.Post
 returns-2 t c =
@@ -89,56 +84,51 @@ returns-2 t c =
     let at-refusal = at-value .before .before .before in
     let at-walked = at-refusal .before .before .before .before .before .before .before in
     let at-tried = at-walked .before .before .before .before .before .before .before .before in
-    let at-child = at-tried .before .before .before in
-    let at-kind = at-child .before .before in
+    let at-asked = at-tried .before .before .before in
+    let at-kind = at-asked .before in
     let start = at-kind .before .before .before .before .before .before .before in
     let child = child-given _ _ _ _ _ _ _ _ _ _ _ _ _ _ _ (start .pre .1 .0 .0) (at-tried .peek .ensures .0) (at-tried .peek .ensures .1 .1) (at-walked .lower-materializing .ensures) in
-    name-key _ _ _ _ _ _ (sym (at-kind .node-word .ensures) ∙ at-child .before .if1 .taken) (at-child .value-or-key .ensures)
+    let has = below-absent _ _ (start .pre .1 .1 .1) (omega (arith, start .fits .node)) in
+    leaf-key _ _ _ _ _ _ (rw (at-kind .node-word .ensures) at (at-asked .if1 .taken)) (λ e. has) (valued _ _ has)
     (then-by _ _ _ _ _ _ child (at-refusal .is-refusal .ensures) (at-value .before .before .if2 .left) (at-value .value-of .ensures)
     (rw (source-operand _ _) (at-set .set-property .ensures _ _ _)))
 
 -- ---- any other key: the key, and then its value
 
-returns-3 : (t : ℕ) → lower-entry-lts.Need-returns-3 (calls t) (lower-entry-at t) lower-entry.Post
-returns-3 t c =
-    let at-kind = c .before .before .before in
-    let start = at-kind .before .before .before .before .before .before .before in
-    rw (c .refused .ensures .0, c .refused .ensures .1)
-    (key-alone _ _ _ _ _ _ (rw (at-kind .node-word .ensures) at (c .before .before .if1 .left)) (c .before .if3 .taken) (omega (arith, start .fits .key)))
-
 peek-requires-2 : (t : ℕ) → lower-entry-lts.Need-peek-requires-2 (calls t) (lower-entry-at t) lower-entry.Post
 peek-requires-2 t c κs =
-    let at-kind = c .before .before .before .before in
+    let at-kind = c .before .before .before in
     let start = at-kind .before .before .before .before .before .before .before in
     (child-seen _ _ _ _ _ (start .pre .1 .0) (start .pre .1 .1 .0), omega arith)
 
 lower-materializing-requires-2 : (t : ℕ) → lower-entry-lts.Need-lower-materializing-requires-2 (calls t) (lower-entry-at t) lower-entry.Post
 lower-materializing-requires-2 t c κs =
     let at-tried = c .before .before .before .before .before .before .before in
-    let at-kind = at-tried .before .before .before .before .before in
+    let at-kind = at-tried .before .before .before .before in
     let start = at-kind .before .before .before .before .before .before .before in
     child-asked _ _ _ _ _ (start .pre .1 .0) (start .pre .1 .1 .0) _ t (omega (arith, start .pre .0)) (at-tried .peek2 .ensures .1 .1)
 
-returns-4 : (t : ℕ) → lower-entry-lts.Need-returns-4 (calls t) (lower-entry-at t) lower-entry.Post
-returns-4 t c =
+returns-3 : (t : ℕ) → lower-entry-lts.Need-returns-3 (calls t) (lower-entry-at t) lower-entry.Post
+returns-3 t c =
     let at-walked = c .before .before .before .before .before .before .before .before in
     let at-tried = at-walked .before .before .before .before .before .before .before .before in
-    let at-absent = at-tried .before .before .before in
-    let at-kind = at-absent .before .before in
+    let at-asked = at-tried .before .before .before in
+    let at-kind = at-asked .before in
     let start = at-kind .before .before .before .before .before .before .before in
     let key = child-given _ _ _ _ _ _ _ _ _ _ _ _ _ _ _ (start .pre .1 .0 .0) (at-tried .peek2 .ensures .0) (at-tried .peek2 .ensures .1 .1) (at-walked .lower-materializing2 .ensures) in
-    key-and-value _ _ _ _ _ _ (rw (at-kind .node-word .ensures) at (at-absent .before .if1 .left)) (at-absent .if3 .left)
-    (stop-by _ _ _ _ _ _ key placeAt (c .before .is-refusal2 .ensures) (c .if4 .taken))
+    let kind = past-name (rw (at-kind .node-word .ensures) at (at-asked .if1 .left)) in
+    key-and-value _ _ _ _ _ _ kind (below-absent _ _ (start .pre .1 .1 .1) (omega (arith, start .fits .node)))
+    (stop-by _ _ _ _ _ _ key placeAt (c .before .is-refusal2 .ensures) (c .if3 .taken))
 
 peek-requires-3 : (t : ℕ) → lower-entry-lts.Need-peek-requires-3 (calls t) (lower-entry-at t) lower-entry.Post
 peek-requires-3 t c κs =
     let at-refusal = c .before .before .before .before .before in
     let at-walked = at-refusal .before .before .before .before .before .before .before in
     let at-tried = at-walked .before .before .before .before .before .before .before .before in
-    let at-absent = at-tried .before .before .before in
-    let at-kind = at-absent .before .before in
+    let at-asked = at-tried .before .before .before in
+    let at-kind = at-asked .before in
     let start = at-kind .before .before .before .before .before .before .before in
-    (child-seen _ _ _ _ _ (start .pre .1 .0) (start .pre .1 .1 .1 (at-absent .if3 .left)), omega arith)
+    (child-seen _ _ _ _ _ (start .pre .1 .0) (start .pre .1 .1 .1), omega arith)
 
 lower-materializing-requires-3 : (t : ℕ) → lower-entry-lts.Need-lower-materializing-requires-3 (calls t) (lower-entry-at t) lower-entry.Post
 lower-materializing-requires-3 t c κs =
@@ -146,28 +136,29 @@ lower-materializing-requires-3 t c κs =
     let at-refusal = at-tried2 .before .before .before .before .before .before in
     let at-walked = at-refusal .before .before .before .before .before .before .before in
     let at-tried = at-walked .before .before .before .before .before .before .before .before in
-    let at-absent = at-tried .before .before .before in
-    let at-kind = at-absent .before .before in
+    let at-asked = at-tried .before .before .before in
+    let at-kind = at-asked .before in
     let start = at-kind .before .before .before .before .before .before .before in
-    child-asked _ _ _ _ _ (start .pre .1 .0) (start .pre .1 .1 .1 (at-absent .if3 .left)) _ t (omega (arith, start .pre .0)) (at-tried2 .peek3 .ensures .1 .1)
+    child-asked _ _ _ _ _ (start .pre .1 .0) (start .pre .1 .1 .1) _ t (omega (arith, start .pre .0)) (at-tried2 .peek3 .ensures .1 .1)
 
-returns-5 : (t : ℕ) → lower-entry-lts.Need-returns-5 (calls t) (lower-entry-at t) lower-entry.Post
-returns-5 t c =
+returns-4 : (t : ℕ) → lower-entry-lts.Need-returns-4 (calls t) (lower-entry-at t) lower-entry.Post
+returns-4 t c =
     let at-walked2 = c .before .before .before .before .before .before .before .before in
     let at-tried2 = at-walked2 .before .before .before .before .before .before .before .before in
     let at-value = at-tried2 .before .before .before .before in
     let at-refusal = at-value .before .before in
     let at-walked = at-refusal .before .before .before .before .before .before .before in
     let at-tried = at-walked .before .before .before .before .before .before .before .before in
-    let at-absent = at-tried .before .before .before in
-    let at-kind = at-absent .before .before in
+    let at-asked = at-tried .before .before .before in
+    let at-kind = at-asked .before in
     let start = at-kind .before .before .before .before .before .before .before in
     let checked = start .pre .1 .0 .0 in
     let key = child-given _ _ _ _ _ _ _ _ _ _ _ _ _ _ _ checked (at-tried .peek2 .ensures .0) (at-tried .peek2 .ensures .1 .1) (at-walked .lower-materializing2 .ensures) in
     let value = child-given _ _ _ _ _ _ _ _ _ _ _ _ _ _ _ checked (at-tried2 .peek3 .ensures .0) (at-tried2 .peek3 .ensures .1 .1) (at-walked2 .lower-materializing3 .ensures) in
-    key-and-value _ _ _ _ _ _ (rw (at-kind .node-word .ensures) at (at-absent .before .if1 .left)) (at-absent .if3 .left)
-    (then-by _ _ _ _ _ _ key (at-refusal .is-refusal2 .ensures) (at-value .before .if4 .left) (at-value .value-of2 .ensures)
-    (stop-by _ _ _ _ _ _ value placeAt (c .before .is-refusal3 .ensures) (c .if5 .taken)))
+    let kind = past-name (rw (at-kind .node-word .ensures) at (at-asked .if1 .left)) in
+    key-and-value _ _ _ _ _ _ kind (below-absent _ _ (start .pre .1 .1 .1) (omega (arith, start .fits .node)))
+    (then-by _ _ _ _ _ _ key (at-refusal .is-refusal2 .ensures) (at-value .before .if3 .left) (at-value .value-of2 .ensures)
+    (stop-by _ _ _ _ _ _ value placeAt (c .before .is-refusal3 .ensures) (c .if4 .taken)))
 
 set-property-requires-2 : (t : ℕ) → lower-entry-lts.Need-set-property-requires-2 (calls t) (lower-entry-at t) lower-entry.Post
 set-property-requires-2 t c κs =
@@ -177,13 +168,13 @@ set-property-requires-2 t c κs =
     let at-refusal = at-tried2 .before .before .before .before .before .before in
     let at-walked = at-refusal .before .before .before .before .before .before .before in
     let at-tried = at-walked .before .before .before .before .before .before .before .before in
-    let at-absent = at-tried .before .before .before in
-    let at-kind = at-absent .before .before in
+    let at-asked = at-tried .before .before .before in
+    let at-kind = at-asked .before in
     let start = at-kind .before .before .before .before .before .before .before in
-    (omega (arith, start .pre .1 .0 .1 .1, start .pre .1 .1 .0), omega (arith, start .pre .1 .1 .1 (at-absent .if3 .left), start .pre .1 .0 .1 .1))
+    (omega (arith, start .pre .1 .0 .1 .1, start .pre .1 .1 .0), omega (arith, start .pre .1 .1 .1, start .pre .1 .0 .1 .1))
 
-returns-6 : (t : ℕ) → lower-entry-lts.Need-returns-6 (calls t) (lower-entry-at t) lower-entry.Post
-returns-6 t c =
+returns-5 : (t : ℕ) → lower-entry-lts.Need-returns-5 (calls t) (lower-entry-at t) lower-entry.Post
+returns-5 t c =
     let at-set = c .before .before .before .before in
     let at-value2 = at-set .before .before .before .before in
     let at-refusal2 = at-value2 .before .before in
@@ -193,23 +184,22 @@ returns-6 t c =
     let at-refusal = at-value .before .before in
     let at-walked = at-refusal .before .before .before .before .before .before .before in
     let at-tried = at-walked .before .before .before .before .before .before .before .before in
-    let at-absent = at-tried .before .before .before in
-    let at-kind = at-absent .before .before in
+    let at-asked = at-tried .before .before .before in
+    let at-kind = at-asked .before in
     let start = at-kind .before .before .before .before .before .before .before in
     let checked = start .pre .1 .0 .0 in
-    let kind = rw (at-kind .node-word .ensures) at (at-absent .before .if1 .left) in
+    let kind = past-name (rw (at-kind .node-word .ensures) at (at-asked .if1 .left)) in
     let key = child-given _ _ _ _ _ _ _ _ _ _ _ _ _ _ _ checked (at-tried .peek2 .ensures .0) (at-tried .peek2 .ensures .1 .1) (at-walked .lower-materializing2 .ensures) in
     let value = child-given _ _ _ _ _ _ _ _ _ _ _ _ _ _ _ checked (at-tried2 .peek3 .ensures .0) (at-tried2 .peek3 .ensures .1 .1) (at-walked2 .lower-materializing3 .ensures) in
-    key-and-value _ _ _ _ _ _ kind (at-absent .if3 .left)
-    (then-by _ _ _ _ _ _ key (at-refusal .is-refusal2 .ensures) (at-value .before .if4 .left) (at-value .value-of2 .ensures)
-    (then-by _ _ _ _ _ _ value (at-refusal2 .is-refusal3 .ensures) (at-value2 .before .if5 .left) (at-value2 .value-of3 .ensures)
+    key-and-value _ _ _ _ _ _ kind (below-absent _ _ (start .pre .1 .1 .1) (omega (arith, start .fits .node)))
+    (then-by _ _ _ _ _ _ key (at-refusal .is-refusal2 .ensures) (at-value .before .if3 .left) (at-value .value-of2 .ensures)
+    (then-by _ _ _ _ _ _ value (at-refusal2 .is-refusal3 .ensures) (at-value2 .before .if4 .left) (at-value2 .value-of3 .ensures)
     (store-both _ _ _ _ _ _ kind _ _ (at-set .set-property2 .ensures _ _ _))))
 
 pub lower-entry-proof : {M : Type 1} (t : ℕ) → lower-entry-lts.Closed (calls t) (lower-entry-at t) lower-entry.Post M
 lower-entry-proof t =
     lower-entry-lts.spec (calls t) (lower-entry-at t) lower-entry.Post
     (node-word-requires t)
-    (λ c κs. search needs)
     (peek-requires t)
     (lower-materializing-requires t)
     (λ c κs. search needs)
@@ -237,15 +227,13 @@ lower-entry-proof t =
     let at-walked = at-refusal .before .before .before .before .before .before .before in
     at-walked .lower-materializing .kept .1 .1 .1 .1 .1 .0)
     (returns-2 t)
-    (λ c κs. search needs)
-    (returns-3 t)
     (peek-requires-2 t)
     (lower-materializing-requires-2 t)
     (λ c κs. search needs)
     (λ c. search needs)
     (λ c. search needs)
     (λ c. search needs)
-    (returns-4 t)
+    (returns-3 t)
     (λ c κs. search needs)
     (peek-requires-3 t)
     (lower-materializing-requires-3 t)
@@ -270,7 +258,7 @@ lower-entry-proof t =
     let at-refusal = at-tried2 .before .before .before .before .before .before in
     let at-walked = at-refusal .before .before .before .before .before .before .before in
     at-walked2 .lower-materializing3 .kept .1 .1 .1 .1 .1 .0 ∙ at-walked .lower-materializing2 .kept .1 .1 .1 .1 .1 .0)
-    (returns-5 t)
+    (returns-4 t)
     (λ c κs. search needs)
     (set-property-requires-2 t)
     (λ c.
@@ -299,4 +287,4 @@ lower-entry-proof t =
     let at-refusal = at-tried2 .before .before .before .before .before .before in
     let at-walked = at-refusal .before .before .before .before .before .before .before in
     at-walked2 .lower-materializing3 .kept .1 .1 .1 .1 .1 .0 ∙ at-walked .lower-materializing2 .kept .1 .1 .1 .1 .1 .0)
-    (returns-6 t)
+    (returns-5 t)

@@ -1,8 +1,8 @@
--- `codegen::lower_expression::set_opcode` meets its contract, by where key and value are. Assumes nothing.
+-- `codegen::flat::set_opcode` meets its contract, by where key and value are. Assumes nothing.
 use borrow.Author.Tests.{eq-eqb, ne-eqb}
 use Rattle.codegen.specs.Kinds.{setOpcode}
-use Rattle.codegen.proofs.lower_expression.set_opcode.Statement.{statement}
-use Rattle.codegen.proofs.lower_expression.set_opcode.Tie as tie
+use Rattle.codegen.proofs.flat.set_opcode.Statement.{statement}
+use Rattle.codegen.proofs.flat.set_opcode.Tie as tie
 
 pub set-opcode-spec : {M : Type 1} → statement M
 unfolding setOpcode

@@ -1,11 +1,11 @@
--- `codegen::lower_expression::key_operand` meets its contract. Assumes nothing.
+-- `codegen::flat::key_operand` meets its contract. Assumes nothing.
 use mathlib.Core.Path.{sym, _∙_}
 use borrow.Author.Needs.{needs}
 use Rattle.syntax.specs.Ast.{nodeAt}
 use Rattle.codegen.specs.Kinds.{keyOperand}
 use Rattle.codegen.proofs.Reading.{node-other}
-use Rattle.codegen.proofs.lower_expression.key_operand.Statement.{statement}
-use Rattle.codegen.proofs.lower_expression.key_operand.Tie as tie
+use Rattle.codegen.proofs.flat.key_operand.Statement.{statement}
+use Rattle.codegen.proofs.flat.key_operand.Tie as tie
 
 returns : tie.Need-returns
 unfolding keyOperand nodeAt
