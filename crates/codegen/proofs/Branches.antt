@@ -25,9 +25,9 @@ use Rattle.lowering.specs.Checked.{Checked, IfBelow, CallBelow}
 use Rattle.lowering.specs.Walk.{Made, made, Outcome, Walk, bind, _>>=_, _>>_, ret}
 use Rattle.lowering.specs.Steps.{freeTemp, destination, emit, patchToNext, mark}
 use Rattle.lowering.specs.Lower.{refuse, lowerMaterializing, lowerArguments, lowerElse, lowerNode, lowerExpression, lowerJumpIfFalse}
-use Rattle.lower_ast.specs.Arguments.{markArgument}
-use Rattle.steps.specs.declared.answer.Lowered.{Lowered}
-use Rattle.steps.specs.Answers.{any, registerAt, destOf, operandAt, settled, seen, isRefusal, isInner, valueOf, refusalWord, namesNode, errorAt, wordEnd, unitAt}
+use Rattle.patch.specs.Arguments.{markArgument}
+use Rattle.steps.specs.declared.answer.AnswerAndState.{AnswerAndState}
+use Rattle.steps.specs.Answers.{any, registerAt, destOf, operandAt, settled, seen, isRefusal, isInner, valueOf, refusalAt, namesNode, errorAt, wordEnd, unitAt}
 use Rattle.steps.proofs.Words.{registerAt-local}
 use Rattle.steps.proofs.Chains.{stop-by, seen-refusal, seen-word}
 use Rattle.codegen.specs.Kinds.{binaryKind, andKind, orKind, ifKind, callKind}
@@ -41,7 +41,7 @@ abbrev treeWith : List ℕ → List ℕ → List ℕ → Tree
 treeWith nodes list names = record { nodes = nodes; list = words list; names = names }
 
 -- from code, pool, marks and s: `peek_into` left code₁, pool₁ and f, and `lower_materializing` code₂, pool₂, marks₂ and r
-module _ {nodes names code code₁ code₂ pool pool₁ pool₂ marks marks₂ : List ℕ} {s : State} {f r : Lowered} {n d : ℕ} (list : List ℕ)
+module _ {nodes names code code₁ code₂ pool pool₁ pool₂ marks marks₂ : List ℕ} {s : State} {f r : AnswerAndState} {n d : ℕ} (list : List ℕ)
     (checked : Checked (treeWith nodes list names)) (few : d < any)
     (peeked : ((list m : List ℕ) → Checked (treeWith nodes list names) → isInner (f .answer) ≡ false →
     settled (lowerMaterializing (lowerExpression freeTemp (treeWith nodes list names) n) (Dest.To (registerAt d)) (made code pool m s))
@@ -72,17 +72,17 @@ module _ {nodes names code code₁ code₂ pool pool₁ pool₂ marks marks₂ :
 -- ---- the end of an arm
 
 -- the fields of an instruction
-pub fields : (opcode : ℕ) {a b c x y z : ℕ} → a ≡ x → b ≡ y → c ≡ z → opcode ∷ x ∷ y ∷ z ∷ [] ≡ opcode ∷ a ∷ b ∷ c ∷ []
-fields opcode e f g = rw (e, f, g)
+pub same-fields : (opcode : ℕ) {a b c x y z : ℕ} → a ≡ x → b ≡ y → c ≡ z → opcode ∷ x ∷ y ∷ z ∷ [] ≡ opcode ∷ a ∷ b ∷ c ∷ []
+same-fields opcode e f g = rw (e, f, g)
 
 -- by what `answered` or `refused` answers
-pub by-answer : {A : Type 0} (t : Tree) (gives : ℕ → A) (code pool marks : List ℕ) (r : Lowered) {s : State} {w : ℕ} {o : Outcome A} → (r .state ≡ s) × (r .answer ≡ w) →
+pub by-answer : {A : Type 0} (t : Tree) (gives : ℕ → A) (code pool marks : List ℕ) (r : AnswerAndState) {s : State} {w : ℕ} {o : Outcome A} → (r .state ≡ s) × (r .answer ≡ w) →
     o ≡ seen t gives (made code pool marks s) w → o ≡ seen t gives (made code pool marks (r .state)) (r .answer)
 by-answer t gives code pool marks r same q = rw (same .0, same .1) q
 
 -- a refusal that names a node
 refused-at : {A : Type 0} (t : Tree) (gives : ℕ → A) (refusal : Refusal) (i : ℕ) (m : Made) → namesNode refusal ≡ true → i < wordEnd →
-    settled (refuse t refusal i m) ≡ seen t gives m (refusalWord refusal i)
+    settled (refuse t refusal i m) ≡ seen t gives m (refusalAt refusal i)
 unfolding settled errorAt
 refused-at t gives refusal i m names h = sym (rw names at (seen-refusal t gives m refusal i h))
 
@@ -138,7 +138,7 @@ module _ (t : Tree) {B : Type 0} (i else : ℕ) (d : Register) (m : Made) (k : R
   unfolding lowerElse
   then-else h q = rw (ne-eqb else absent h) q
 
-  pub stop-else : (gives : ℕ → B) → else ≡ absent → i < wordEnd → settled (bind (lowerElse t (lowerExpression freeTemp t) i else d m) k) ≡ seen t gives m (refusalWord Refusal.Else i)
+  pub stop-else : (gives : ℕ → B) → else ≡ absent → i < wordEnd → settled (bind (lowerElse t (lowerExpression freeTemp t) i else d m) k) ≡ seen t gives m (refusalAt Refusal.Else i)
   unfolding lowerElse bind namesNode
   stop-else gives h small = rw (eq-eqb else absent h) (refused-at t gives Refusal.Else i m refl small)
 
@@ -186,6 +186,6 @@ marked marks count instructions n h left = rw (ne-eqb instructions 0 h) at left
 
 -- where there is none
 pub stop-unmarked : {B : Type 0} (t : Tree) (call : ℕ) (m : Made) (k : ℕ → Walk B) (gives : ℕ → B) → m .state .instructions ≡ 0 → call < wordEnd →
-    settled (bind (mark call (spanStart t call) (spanEnd t call) m) k) ≡ seen t gives m (refusalWord Refusal.Unmarked call)
+    settled (bind (mark call (spanStart t call) (spanEnd t call) m) k) ≡ seen t gives m (refusalAt Refusal.Unmarked call)
 unfolding mark bind namesNode
 stop-unmarked t call m k gives h small = rw (eq-eqb (m .state .instructions) 0 h) (refused-at t gives Refusal.Unmarked call m refl small)

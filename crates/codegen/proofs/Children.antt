@@ -4,27 +4,26 @@ use native.Mathlib.Omega.{arith}
 use mathlib.Core.Path.{_≡_, refl, ap}
 use mathlib.Core.Bool.{Bool, true, false, cond}
 use mathlib.Core.List.{List}
-use Rattle.words.specs.Words.{words}
 use Rattle.environment.specs.declared.Register.{Register}
-use Rattle.syntax.specs.Ast.{nodeAt, nodeWord}
+use Rattle.syntax.specs.Ast.{nodeWord}
 use Rattle.lowering.specs.declared.Dest.{Dest}
 use Rattle.lowering.specs.declared.State.{State}
-use Rattle.lowering.specs.Tree.{Tree, treeOf, node}
+use Rattle.lowering.specs.Tree.{Tree, node}
 use Rattle.lowering.specs.Checked.{Checked}
 use Rattle.lowering.specs.Walk.{Made, made}
 use Rattle.lowering.specs.Steps.{freeTemp}
 use Rattle.lowering.specs.Lower.{lowerMaterializing, lowerExpression}
-use Rattle.steps.specs.declared.answer.Lowered.{Lowered}
+use Rattle.steps.specs.declared.answer.AnswerAndState.{AnswerAndState}
 use Rattle.steps.specs.Answers.{any, registerAt, destOf, operandAt, settled, seen, isInner, valueOf}
-use Rattle.codegen.specs.Ready.{wordOf, Ready, ReadyTo, Lowers}
+use Rattle.codegen.specs.Ready.{Ready, ReadyTo}
 use Rattle.codegen.specs.Kinds.{binaryKind}
-use Rattle.codegen.specs.Flat.{Seen, askOperand, Untouched}
+use Rattle.codegen.specs.Flat.{FlatReady}
 use Rattle.codegen.proofs.Walk.{falling, child-operand, child-register, child-into}
 
 -- ---- what it takes
 
 -- to try a node below i
-pub child-seen : (nodes list names : List ℕ) (i n : ℕ) → Ready nodes list names i → n < i → Seen nodes names n
+pub child-seen : (nodes list names : List ℕ) (i n : ℕ) → Ready nodes list names i → n < i → FlatReady nodes names n
 child-seen nodes list names i n ready below = (falling nodes list names (ready .0), (ready .1 .0, omega (arith, ready .1 .1)))
 
 -- to walk it, by a measure that falls: that of node i or more
@@ -36,20 +35,16 @@ walk-requires nodes list names {i} {t} n dest a ready below at few same = (go (i
     go true h = omega (arith, same h)
     go false h = omega arith
 
-pub child-asked : {A B : Type 0} (nodes list names : List ℕ) (i n : ℕ) → Ready nodes list names i → n < i → (a t : ℕ) → 8 * i ≤ t → (isInner a ≡ true → A × ((valueOf a ≡ n) × B)) →
-    (cond (isInner a) (8 * valueOf a + 3) 0 < t) × (isInner a ≡ true → ReadyTo nodes list names (valueOf a) any)
-child-asked nodes list names i n ready below a t room inner = walk-requires nodes list names n any a ready below room (omega arith) (λ h. omega (arith, inner h .1 .0))
-
 -- ---- what the trial (f) and the walk (r) together give
 
 -- what the trial left is kept, or nothing was done
-kept : {k k₁ p p₁ q q₁ : List ℕ} {f r : Lowered} → (r ≡ f) × ((k₁ ≡ k) × ((p₁ ≡ p) × (q₁ ≡ q))) → (made k₁ p₁ q₁ (r .state) ≡ made k p q (f .state)) × (r .answer ≡ f .answer)
+kept : {k k₁ p p₁ q q₁ : List ℕ} {f r : AnswerAndState} → (r ≡ f) × ((k₁ ≡ k) × ((p₁ ≡ p) × (q₁ ≡ q))) → (made k₁ p₁ q₁ (r .state) ≡ made k p q (f .state)) × (r .answer ≡ f .answer)
 kept same = (rw (same .0, same .1 .0, same .1 .1 .0, same .1 .1 .1), ap (λ x. x .answer) (same .0))
 
 untouched : {A : Type 0} {k k₁ p p₁ q : List ℕ} {s : State} → A × ((k₁ ≡ k) × (p₁ ≡ p)) → made k₁ p₁ q s ≡ made k p q s
 untouched same = rw (same .1 .0, same .1 .1)
 
-module _ {t : Tree} (checked : Checked t) {n : ℕ} {k k₁ k₂ p p₁ p₂ q q₂ : List ℕ} {s : State} {f r : Lowered}
+module _ {t : Tree} (checked : Checked t) {n : ℕ} {k k₁ k₂ p p₁ p₂ q q₂ : List ℕ} {s : State} {f r : AnswerAndState}
     (inner : isInner (f .answer) ≡ true → ((f .state ≡ s) × ((k₁ ≡ k) × (p₁ ≡ p))) × ((valueOf (f .answer) ≡ n) × (binaryKind ≤ nodeWord (t .nodes) n 0)))
     (walked : isInner (f .answer) ≡ true →
     settled (lowerExpression freeTemp t (valueOf (f .answer)) (destOf any) (made k₁ p₁ q s)) ≡ seen t (operandAt (node t (valueOf (f .answer)))) (made k₂ p₂ q₂ (r .state)) (r .answer))
@@ -67,7 +62,7 @@ module _ {t : Tree} (checked : Checked t) {n : ℕ} {k k₁ k₂ p p₁ p₂ q q
       child-register checked n _ _ _ _ _ _ (λ h. kept (done h)) (λ h. untouched (inner h .0)) tried (λ h. inner h .1 .0) (λ h. inner h .1 .1) walked
 
 -- its value in d
-pub into-of : {t : Tree} (checked : Checked t) {n d : ℕ} {k k₁ k₂ p p₁ p₂ q q₂ : List ℕ} {s : State} {f r : Lowered} → d < any →
+pub into-of : {t : Tree} (checked : Checked t) {n d : ℕ} {k k₁ k₂ p p₁ p₂ q q₂ : List ℕ} {s : State} {f r : AnswerAndState} → d < any →
     (isInner (f .answer) ≡ true → ((f .state ≡ s) × ((k₁ ≡ k) × (p₁ ≡ p))) × ((valueOf (f .answer) ≤ n) × (binaryKind ≤ nodeWord (t .nodes) (valueOf (f .answer)) 0))) →
     ((e : Register) (m : Made) → isInner (f .answer) ≡ true → lowerMaterializing (lowerExpression freeTemp t n) (Dest.To e) m ≡ lowerMaterializing (lowerExpression freeTemp t (valueOf (f .answer))) (Dest.To e) m) →
     (isInner (f .answer) ≡ true →
@@ -77,16 +72,3 @@ pub into-of : {t : Tree} (checked : Checked t) {n d : ℕ} {k k₁ k₂ p p₁ p
     settled (lowerMaterializing (lowerExpression freeTemp t n) (Dest.To (registerAt d)) (made k p q s)) ≡ seen t registerAt (made k₂ p₂ q₂ (r .state)) (r .answer)
 into-of checked {n} {d} few inner same walked done tried =
     child-into checked n _ _ _ _ _ _ (λ h. kept (done h)) (λ h. untouched (inner h .0)) d few tried (λ h. same _ _ h) (λ h. inner h .1 .1) walked
-
--- its operand, by all that `peek` and `lower_materializing` ensure
-pub child-given : (nodes list names code code₁ code₂ pool pool₁ pool₂ marks marks₂ : List ℕ) (s : State) (n : ℕ) (f r : Lowered) → Checked (treeOf nodes list names) →
-    ((list m : List ℕ) → Checked (treeOf nodes list names) → isInner (f .answer) ≡ false → askOperand ≡ askOperand →
-    settled (lowerExpression freeTemp (treeOf nodes list names) n Dest.Any (made (words code) (words pool) m s))
-    ≡ seen (treeOf nodes list names) (operandAt (nodeAt (words nodes) n)) (made (words code₁) (words pool₁) m (f .state)) (f .answer)) →
-    (isInner (f .answer) ≡ true → Untouched code code₁ pool pool₁ s f × ((valueOf (f .answer) ≡ n) × (binaryKind ≤ wordOf nodes n 0))) →
-    (isInner (f .answer) ≡ true → Lowers (λ t. operandAt (nodeAt (t .nodes) (valueOf (f .answer)))) (λ t. lowerExpression freeTemp t (valueOf (f .answer)) (destOf any))
-    nodes list names code₁ pool₁ marks code₂ pool₂ marks₂ s r)
-    × (isInner (f .answer) ≡ false → (r ≡ f) × ((words code₂ ≡ words code₁) × ((words pool₂ ≡ words pool₁) × (words marks₂ ≡ words marks)))) →
-    Lowers (λ t. operandAt (nodeAt (t .nodes) n)) (λ t. lowerExpression freeTemp t n Dest.Any) nodes list names code pool marks code₂ pool₂ marks₂ s r
-child-given nodes list names code code₁ code₂ pool pool₁ pool₂ marks marks₂ s n f r checked tried inner walked =
-    operand-of checked inner (walked .0) (walked .1) (λ h. tried list (words marks) checked h refl)

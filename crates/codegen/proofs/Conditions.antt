@@ -24,10 +24,10 @@ use Rattle.lowering.specs.Walk.{Made, made, Outcome, Walk, bind}
 use Rattle.lowering.specs.Steps.{freeTemp, loadConstant}
 use Rattle.lowering.specs.Operators.{comparison}
 use Rattle.lowering.specs.Literals.{literal}
-use Rattle.lowering.specs.Lower.{source, lowerMaterializing, tested, fused, fusedSources, jumpNode, lowerExpression}
+use Rattle.lowering.specs.Lower.{source, lowerMaterializing, test, fuse, fusedSources, jumpNode, lowerExpression}
 use Rattle.lowering.proofs.Destinations.{expression-register, node-kind}
 use Rattle.operators.proofs.Compares.{compares-some, compares-none}
-use Rattle.steps.specs.declared.answer.Lowered.{Lowered}
+use Rattle.steps.specs.declared.answer.AnswerAndState.{AnswerAndState}
 use Rattle.steps.specs.Answers.{registerAt, literalWord, operandAt, sourceAt, settled, seen}
 use Rattle.steps.proofs.Chains.{seen-word}
 use Rattle.steps.proofs.Words.{source-operand}
@@ -79,7 +79,7 @@ module _ {t : Tree} (checked : Checked t) (i : ℕ) where
       in-register t (node t i) dest (lowerExpression freeTemp t i dest m) m₁ a (expression-register t i (no-literal checked i h) dest m) e
 
 -- what was made and answered where two ways meet, by the way that was gone
-pub at-meeting : {A : Type 0} (t : Tree) (gives : ℕ → A) {code code₁ pool pool₁ marks marks₁ : List ℕ} {r r₁ : Lowered} {o : Outcome A} →
+pub at-meeting : {A : Type 0} (t : Tree) (gives : ℕ → A) {code code₁ pool pool₁ marks marks₁ : List ℕ} {r r₁ : AnswerAndState} {o : Outcome A} →
     code ≡ code₁ → pool ≡ pool₁ → marks ≡ marks₁ → r ≡ r₁ → o ≡ seen t gives (made (words code₁) (words pool₁) (words marks₁) (r₁ .state)) (r₁ .answer) →
     o ≡ seen t gives (made (words code) (words pool) (words marks) (r .state)) (r .answer)
 at-meeting t gives e f g h q = rw (e, f, g, h) q
@@ -88,8 +88,8 @@ at-meeting t gives e f g h q = rw (e, f, g, h) q
 
 module _ (t : Tree) (E : ℕ → Dest → Walk Operand) (sense : Bool) (own : Dest → Walk Operand) where
   -- what is no comparison is tested
-  pub not-compared : (n : Node) → isCompared n ≡ false → jumpNode t E sense own n ≡ tested t E sense own
-  unfolding isCompared jumpNode fused
+  pub not-compared : (n : Node) → isCompared n ≡ false → jumpNode t E sense own n ≡ test t E sense own
+  unfolding isCompared jumpNode fuse
   not-compared (Node.Number low high) h = refl
   not-compared (Node.String symbol) h = refl
   not-compared (Node.Boolean b) h = refl
@@ -138,18 +138,18 @@ module _ (t : Tree) (i : ℕ) (is : isCompared (node t i) ≡ true) where
 
     module _ (E : ℕ → Dest → Walk Operand) (sense : Bool) (own : Dest → Walk Operand) (m : Made) {r : Outcome ℕ} where
       -- it is left, right, and the jump of both
-      pub compared : ((c : Comparison) → comparison (binaryOp (nodeWord (t .nodes) i 1)) ≡ some c →
+      pub compared-jump : ((c : Comparison) → comparison (binaryOp (nodeWord (t .nodes) i 1)) ≡ some c →
           settled (bind (E left Dest.Any m) (λ a m₁. bind (E right Dest.Any m₁) (λ b. fusedSources t E sense own c (source a) (source b)))) ≡ r) →
           settled (jumpNode t E sense own (node t i) m) ≡ r
-      unfolding isCompared jumpNode fused
-      compared q =
+      unfolding isCompared jumpNode fuse
+      compared-jump q =
           let e = node-kind t i binaryKind (compared-kind (t .nodes) i is) in
           let some-c = compares-some (binaryOp (nodeWord (t .nodes) i 1)) (rw e at is) in
           rw (e, some-c .1) (rw (first, second) at (q (some-c .0) (some-c .1)))
 
       module _ (c : Comparison) (a b : ℕ) where
         -- two literals are tested like anything else
-        pub two-literals : (eqb a literalWord && eqb b literalWord) ≡ true → settled (tested t E sense own m) ≡ r →
+        pub two-literals : (eqb a literalWord && eqb b literalWord) ≡ true → settled (test t E sense own m) ≡ r →
             settled (fusedSources t E sense own c (source (operandAt (node t left) a)) (source (operandAt (node t right) b)) m) ≡ r
         unfolding fusedSources sourceAt
         two-literals h q =

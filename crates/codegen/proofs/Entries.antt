@@ -30,7 +30,7 @@ use Rattle.lowering.specs.Steps.{freeTemp, withConstants, emit, store}
 use Rattle.lowering.specs.Literals.{isLiteral, literal}
 use Rattle.lowering.specs.Lower.{Source, source, register, constant, nameOf, materialized, lowerMaterializing, storeNamed, storeKeyed, lowerEntry, lowerEntries, lowerExpression}
 use Rattle.lowering.proofs.Destinations.{GivesRegister, expression-register, node-kind}
-use Rattle.steps.specs.Answers.{registerAt, literalWord, operandAt, sourceAt, placeAt, wordEnd, refusalWord, isRefusal, valueOf, namesNode, errorAt, settled, seen}
+use Rattle.steps.specs.Answers.{registerAt, literalWord, operandAt, sourceAt, placeAt, wordEnd, refusalAt, isRefusal, valueOf, namesNode, errorAt, settled, seen}
 use Rattle.steps.proofs.Chains.{got, stop-by, nested, seen-given, seen-refusal, then-stored, stop-stored}
 use Rattle.steps.proofs.Words.{regOf-registerAt, source-operand}
 use Rattle.codegen.specs.Ready.{InArena}
@@ -90,11 +90,11 @@ module _ (t : Tree) {B : Type 0} (m : Made) (c : Operand) (src n : ℕ) (k : ℕ
           rw (ne-eqb src literalWord l) (rw (held l .0, held l .1, same) at q)
 
   pub stop-field : (gives : ℕ → B) → n ≡ full →
-      settled (bind (fieldOf (sourceAt c src) m) k) ≡ seen t gives (withConstants pool (m .state .constants) m) (refusalWord Refusal.Constants 0)
+      settled (bind (fieldOf (sourceAt c src) m) k) ≡ seen t gives (withConstants pool (m .state .constants) m) (refusalAt Refusal.Constants 0)
   unfolding sourceAt fieldOf bind
   stop-field gives h = go (ℕ-discrete src literalWord)
     where
-      go : Dec (src ≡ literalWord) → settled (bind (fieldOf (sourceAt c src) m) k) ≡ seen t gives (withConstants pool (m .state .constants) m) (refusalWord Refusal.Constants 0)
+      go : Dec (src ≡ literalWord) → settled (bind (fieldOf (sourceAt c src) m) k) ≡ seen t gives (withConstants pool (m .state .constants) m) (refusalAt Refusal.Constants 0)
       go (yes l) = rw (eq-eqb src literalWord l) (stop-stored t m n k c (pooled l) gives h)
       go (no l) = absurd (omega (arith, h, held l .0, regOf-registerAt src))
 
@@ -217,7 +217,7 @@ module _ (t : Tree) (E : ℕ → Dest → Walk Operand) (d : Register) (key valu
   other-key : (nameOf (node t key) ≡ none) × (keyOperand (node t key) ≡ literal (node t key))
   other-key = rw (node-kind t key (nodeWord (t .nodes) key 0) refl) (other-kind (nodeWord (t .nodes) key 0) _ _ _ kind)
 
-  pub key-alone : value ≡ absent → key < wordEnd → settled (lowerEntry t E d key value (nameOf (node t key)) m) ≡ seen t placeAt m (refusalWord Refusal.Key key)
+  pub key-alone : value ≡ absent → key < wordEnd → settled (lowerEntry t E d key value (nameOf (node t key)) m) ≡ seen t placeAt m (refusalAt Refusal.Key key)
   unfolding lowerEntry settled errorAt namesNode
   key-alone h few = rw (other-key .0, eq-eqb value absent h) (sym (seen-refusal t placeAt m Refusal.Key key few))
 

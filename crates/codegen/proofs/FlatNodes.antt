@@ -29,24 +29,24 @@ use Rattle.lowering.specs.Walk.{Made, Outcome, ends, stops, Walk, bind, _>>=_, 
 use Rattle.lowering.specs.Steps.{freeTemp, destination, emit, loadConstant}
 use Rattle.lowering.specs.Operators.{comparison, jumpIf}
 use Rattle.lowering.specs.Literals.{literal}
-use Rattle.lowering.specs.Lower.{source, materialized, lowerMaterializing, moved, named, tested, binarySources, fusedSources, fused, jumpNode}
-use Rattle.lowering.specs.Lower.{lowerNode, lowerExpression}
+use Rattle.lowering.specs.Lower.{source, materialized, lowerMaterializing, moved, lowerName, test, binarySources, fusedSources, fuse, jumpNode}
+use Rattle.lowering.specs.Lower.{lowerExpression}
 use Rattle.lowering.proofs.Destinations.{Stays, binary-locals, node-kind}
-use Rattle.steps.specs.Answers.{none, any, registerAt, literalWord, operandAt, sourceAt, wordEnd, refusalStart, refusalWord, isRefusal, errorAt, namesNode, settled, seen}
+use Rattle.steps.specs.Answers.{none, any, registerAt, literalWord, operandAt, sourceAt, wordEnd, refusalStart, refusalAt, isRefusal, errorAt, namesNode, settled, seen}
 use Rattle.steps.specs.Answers.{isInner, DestOrRefusal, WordOrRefusal}
 use Rattle.steps.proofs.Words.{source-operand, isInner-word}
 use Rattle.steps.proofs.Chains.{then, stop, last, nested, seen-given, seen-stopped, seen-word, seen-refusal}
-use Rattle.codegen.specs.Ready.{InArena, wordOf}
+use Rattle.codegen.specs.Ready.{InArena, nodeWordOf}
 use Rattle.codegen.specs.Kinds.{nameKind, binaryKind}
 use Rattle.codegen.specs.Flat.{Falling, Given, areLeaves, isFlat, foundAt, LocalOr, askOperand, askInto, needing, flatNode}
-use Rattle.codegen.proofs.Walk.{expression-of, is-literal, literal-expression}
-use Rattle.codegen.proofs.Operands.{both-constant, oneLiteral, first-source, second-source}
+use Rattle.codegen.proofs.Walk.{is-literal, literal-expression}
+use Rattle.codegen.proofs.Operands.{operator-of, both-constant, oneLiteral, first-source, second-source}
 use Rattle.codegen.proofs.Reading.{named-at, local-word, same-word}
 
 -- ---- a register that is needed
 
 module _ {A : Type 0} (d : ℕ) (w : Walk A) (m : Made) where
-  pub needing-none : (t : Tree) (gives : ℕ → A) → d ≡ none → settled (needing d w m) ≡ seen t gives m (refusalWord Refusal.Registers 0)
+  pub needing-none : (t : Tree) (gives : ℕ → A) → d ≡ none → settled (needing d w m) ≡ seen t gives m (refusalAt Refusal.Registers 0)
   unfolding needing settled errorAt namesNode
   needing-none t gives h = rw (eq-eqb d none h) (sym (seen-refusal t gives m Refusal.Registers 0 (omega arith)))
 
@@ -81,10 +81,10 @@ no-inner a (inl h) = ne-eqb (a / wordEnd) 1 (λ e. omega arith)
 no-inner a (inr h) = isInner-word a h
 
 -- the register that was given is a word
-pub answered : (d a : ℕ) → Given d → DestOrRefusal d a → WordOrRefusal a
-answered d a given (inl h) = inl h
-answered d a (inl g) (inr e) = inr (omega arith)
-answered d a (inr g) (inr e) = inr (omega arith)
+pub answer-word : (d a : ℕ) → Given d → DestOrRefusal d a → WordOrRefusal a
+answer-word d a given (inl h) = inl h
+answer-word d a (inl g) (inr e) = inr (omega arith)
+answer-word d a (inr g) (inr e) = inr (omega arith)
 
 -- and no literal's
 pub given-operand : (t : Tree) (n : Node) (m : Made) (d a : ℕ) → Given d → DestOrRefusal d a →
@@ -137,12 +137,12 @@ name-word (inr h) e = omega arith
 -- a name, by the word of its register
 module _ (t : Tree) (i : ℕ) (kind : nodeWord (t .nodes) i 0 ≡ nameKind) (w : ℕ) (found : foundAt w ≡ lookup (t .names) (length (t .names)) (nodeWord (t .nodes) i 1)) where
   name-declared : (dest : Dest) (m : Made) → w ≢ none → lowerExpression freeTemp t i dest m ≡ moved t (registerAt w) dest m
-  unfolding named foundAt
+  unfolding lowerName foundAt
   name-declared dest m h = named-at t i m dest kind found ∙ rw (ne-eqb w none h)
 
   pub stop-name : {B : Type 0} (dest : Dest) (m : Made) (k : Operand → Walk B) (gives : ℕ → B) → w ≡ none → i < wordEnd →
-      settled (bind (lowerExpression freeTemp t i dest m) k) ≡ seen t gives m (refusalWord Refusal.Undeclared i)
-  unfolding named foundAt errorAt namesNode bind settled
+      settled (bind (lowerExpression freeTemp t i dest m) k) ≡ seen t gives m (refusalAt Refusal.Undeclared i)
+  unfolding lowerName foundAt errorAt namesNode bind settled
   stop-name dest m k gives h small = rw (named-at t i m dest kind found, eq-eqb w none h) (sym (seen-refusal t gives m Refusal.Undeclared i small))
 
   pub then-name : {B : Type 0} (m : Made) (k : Operand → Walk B) {r : Outcome B} → w ≢ none → settled (k (Operand.Register (registerAt w)) m) ≡ r →
@@ -156,7 +156,7 @@ module _ (t : Tree) (i : ℕ) (kind : nodeWord (t .nodes) i 0 ≡ nameKind) (w :
         settled (flatNode t asked d i m) ≡ r
     flat-name q = ap settled (name-flat t asked d i m kind) ∙ q
 
-    pub flat-name-undeclared : (gives : ℕ → Operand) → w ≡ none → i < wordEnd → settled (flatNode t asked d i m) ≡ seen t gives m (refusalWord Refusal.Undeclared i)
+    pub flat-name-undeclared : (gives : ℕ → Operand) → w ≡ none → i < wordEnd → settled (flatNode t asked d i m) ≡ seen t gives m (refusalAt Refusal.Undeclared i)
     flat-name-undeclared gives h small = flat-name (last _ (stop-name _ m (λ x. ret x) gives h small))
 
     pub flat-name-own : {r : Outcome Operand} → LocalOr w → w ≢ none → not (eqb asked askInto) || eqb w d ≡ true → ends (Operand.Register (registerAt w)) m ≡ r →
@@ -183,13 +183,13 @@ module _ (t : Tree) (i : ℕ) (kind : nodeWord (t .nodes) i 0 ≡ nameKind) (w :
   -- as a condition: the test of its own register
   module _ (E : ℕ → Dest → Walk Operand) (sense : Bool) (m : Made) where
     pub condition-name-undeclared : (gives : ℕ → ℕ) → w ≡ none → i < wordEnd →
-        settled (jumpNode t E sense (lowerExpression freeTemp t i) (node t i) m) ≡ seen t gives m (refusalWord Refusal.Undeclared i)
-    unfolding jumpNode tested lowerMaterializing
+        settled (jumpNode t E sense (lowerExpression freeTemp t i) (node t i) m) ≡ seen t gives m (refusalAt Refusal.Undeclared i)
+    unfolding jumpNode test lowerMaterializing
     condition-name-undeclared gives h small = rw (node-kind t i nameKind kind) (nested _ _ _ (stop-name Dest.Any m _ gives h small))
 
     pub condition-name : {r : Outcome ℕ} → w ≢ none → settled (emit (jumpIf sense (regOf (registerAt w))) m) ≡ r →
         settled (jumpNode t E sense (lowerExpression freeTemp t i) (node t i) m) ≡ r
-    unfolding jumpNode tested lowerMaterializing moved source materialized bind
+    unfolding jumpNode test lowerMaterializing moved source materialized bind
     condition-name h q = rw (node-kind t i nameKind kind, name-declared Dest.Any m h) q
 
 -- another register was given
@@ -211,10 +211,10 @@ Leaf t i w =
 module _ (t : Tree) (i w : ℕ) (leaf : Leaf t i w) where
   module _ {B : Type 0} (m : Made) (k : Operand → Walk B) where
     pub stop-leaf : (gives : ℕ → B) → w ≡ none → i < wordEnd →
-        settled (bind (lowerExpression freeTemp t i Dest.Any m) k) ≡ seen t gives m (refusalWord Refusal.Undeclared i)
+        settled (bind (lowerExpression freeTemp t i Dest.Any m) k) ≡ seen t gives m (refusalAt Refusal.Undeclared i)
     stop-leaf gives h small = go (ℕ-discrete (nodeWord (t .nodes) i 0) nameKind)
       where
-        go : Dec (nodeWord (t .nodes) i 0 ≡ nameKind) → settled (bind (lowerExpression freeTemp t i Dest.Any m) k) ≡ seen t gives m (refusalWord Refusal.Undeclared i)
+        go : Dec (nodeWord (t .nodes) i 0 ≡ nameKind) → settled (bind (lowerExpression freeTemp t i Dest.Any m) k) ≡ seen t gives m (refusalAt Refusal.Undeclared i)
         go (yes e) = stop-name t i e w (leaf .0 e .0) Dest.Any m k gives h small
         go (no e) = absurd (omega (arith, leaf .1 e))
 
@@ -253,26 +253,26 @@ three false b c h = absurd (false≢true h)
 
 module _ (nodes : List ℕ) (left right : ℕ) (leaves : areLeaves nodes left right ≡ true) where
   -- what was asked of the two kinds
-  asked : (leb (wordOf nodes left 0) nameKind ≡ true)
-      × ((leb (wordOf nodes right 0) nameKind ≡ true) × (eqb (wordOf nodes left 0) nameKind || eqb (wordOf nodes right 0) nameKind ≡ true))
+  asked : (leb (nodeWordOf nodes left 0) nameKind ≡ true)
+      × ((leb (nodeWordOf nodes right 0) nameKind ≡ true) × (eqb (nodeWordOf nodes left 0) nameKind || eqb (nodeWordOf nodes right 0) nameKind ≡ true))
   unfolding areLeaves
   asked = three _ _ _ leaves
 
-  pub left-leaf : wordOf nodes left 0 ≤ nameKind
-  left-leaf = leb-true (wordOf nodes left 0) nameKind (asked .0)
+  pub left-leaf : nodeWordOf nodes left 0 ≤ nameKind
+  left-leaf = leb-true (nodeWordOf nodes left 0) nameKind (asked .0)
 
-  pub right-leaf : wordOf nodes right 0 ≤ nameKind
-  right-leaf = leb-true (wordOf nodes right 0) nameKind (asked .1 .0)
+  pub right-leaf : nodeWordOf nodes right 0 ≤ nameKind
+  right-leaf = leb-true (nodeWordOf nodes right 0) nameKind (asked .1 .0)
 
   module _ (list names : List ℕ) (w₁ w₂ : ℕ) (a : Leaf (treeOf nodes list names) left w₁) (b : Leaf (treeOf nodes list names) right w₂) where
     -- one of them is a name
     pub not-both : eqb w₁ literalWord && eqb w₂ literalWord ≡ false
-    not-both = go (ℕ-discrete (wordOf nodes left 0) nameKind)
+    not-both = go (ℕ-discrete (nodeWordOf nodes left 0) nameKind)
       where
-        go : Dec (wordOf nodes left 0 ≡ nameKind) → eqb w₁ literalWord && eqb w₂ literalWord ≡ false
+        go : Dec (nodeWordOf nodes left 0 ≡ nameKind) → eqb w₁ literalWord && eqb w₂ literalWord ≡ false
         go (yes e) = rw (ne-eqb w₁ literalWord (name-word (a .0 e .1)))
         go (no e) =
-            let named = eqb-true (wordOf nodes right 0) nameKind (rw (ne-eqb (wordOf nodes left 0) nameKind e) at (asked .1 .1)) in
+            let named = eqb-true (nodeWordOf nodes right 0) nameKind (rw (ne-eqb (nodeWordOf nodes left 0) nameKind e) at (asked .1 .1)) in
             rw (ne-eqb w₂ literalWord (name-word (b .0 named .1))) (and-false (eqb w₁ literalWord))
 
     -- c: the constant that one of them is
@@ -307,8 +307,8 @@ module _ (nodes : List ℕ) (left right : ℕ) (leaves : areLeaves nodes left ri
 -- ---- an operator by the words of its node
 
 -- its operands are in the arena
-pub operands-inside : {nodes : List ℕ} → Falling nodes → (i left right : ℕ) → InArena nodes i → wordOf nodes i 0 ≡ binaryKind →
-    left ≡ wordOf nodes i 2 → right ≡ wordOf nodes i 3 → InArena nodes left × InArena nodes right
+pub operands-inside : {nodes : List ℕ} → Falling nodes → (i left right : ℕ) → InArena nodes i → nodeWordOf nodes i 0 ≡ binaryKind →
+    left ≡ nodeWordOf nodes i 2 → right ≡ nodeWordOf nodes i 3 → InArena nodes left × InArena nodes right
 operands-inside falling i left right h kind at-left at-right = (omega (arith, falling .left i h kind), omega (arith, falling .right i h kind))
 
 module _ (t : Tree) (i operator left right : ℕ) (kind : nodeWord (t .nodes) i 0 ≡ binaryKind) (at-operator : operator ≡ nodeWord (t .nodes) i 1)
@@ -318,28 +318,28 @@ module _ (t : Tree) (i operator left right : ℕ) (kind : nodeWord (t .nodes) i 
       settled (bind (lowerExpression freeTemp t left Dest.Any m) (λ a n. bind (lowerExpression freeTemp t right Dest.Any n)
       (λ b. binarySources freeTemp t (lowerExpression freeTemp t) (binaryOp operator) left right d (source a) (source b)))) ≡ r →
       settled (lowerExpression freeTemp t i (Dest.To d) m) ≡ r
-  unfolding lowerNode destination bind
-  binary-of checked d q = expression-of checked i binaryKind kind (Dest.To d) m (rw (at-operator, at-left, at-right) at q)
+  unfolding destination bind
+  binary-of checked d q = operator-of checked i kind at-left at-right (Dest.To d) m (rw at-operator at q)
 
   -- a comparison as a condition: "left, right, constants pooled, one fused jump"
   pub compared-of : (E : ℕ → Dest → Walk Operand) (sense : Bool) (own : Dest → Walk Operand) (op : Comparison) {r : Outcome ℕ} →
       comparison (binaryOp operator) ≡ some op →
       settled (bind (E left Dest.Any m) (λ a n. bind (E right Dest.Any n) (λ b. fusedSources t E sense own op (source a) (source b)))) ≡ r →
       settled (jumpNode t E sense own (node t i) m) ≡ r
-  unfolding jumpNode fused
+  unfolding jumpNode fuse
   compared-of E sense own op compares q = rw (node-kind t i binaryKind kind, ← at-operator, compares, ← at-left, ← at-right) q
 
 -- ---- whether a node is flat
 
 module _ (nodes : List ℕ) (i : ℕ) where
-  pub flat-leaf : wordOf nodes i 0 ≤ nameKind → isFlat nodes i ≡ true
+  pub flat-leaf : nodeWordOf nodes i 0 ≤ nameKind → isFlat nodes i ≡ true
   unfolding isFlat
-  flat-leaf h = rw (ne-eqb (wordOf nodes i 0) binaryKind (λ e. omega arith)) (le-leb (wordOf nodes i 0) nameKind h)
+  flat-leaf h = rw (ne-eqb (nodeWordOf nodes i 0) binaryKind (λ e. omega arith)) (le-leb (nodeWordOf nodes i 0) nameKind h)
 
-  pub flat-binary : wordOf nodes i 0 ≡ binaryKind → isFlat nodes i ≡ areLeaves nodes (wordOf nodes i 2) (wordOf nodes i 3)
+  pub flat-binary : nodeWordOf nodes i 0 ≡ binaryKind → isFlat nodes i ≡ areLeaves nodes (nodeWordOf nodes i 2) (nodeWordOf nodes i 3)
   unfolding isFlat
-  flat-binary kind = rw (eq-eqb (wordOf nodes i 0) binaryKind kind)
+  flat-binary kind = rw (eq-eqb (nodeWordOf nodes i 0) binaryKind kind)
 
-  pub flat-other : binaryKind < wordOf nodes i 0 → isFlat nodes i ≡ false
+  pub flat-other : binaryKind < nodeWordOf nodes i 0 → isFlat nodes i ≡ false
   unfolding isFlat
-  flat-other h = rw (ne-eqb (wordOf nodes i 0) binaryKind (λ e. omega arith)) (lt-leb (wordOf nodes i 0) nameKind (omega arith))
+  flat-other h = rw (ne-eqb (nodeWordOf nodes i 0) binaryKind (λ e. omega arith)) (lt-leb (nodeWordOf nodes i 0) nameKind (omega arith))

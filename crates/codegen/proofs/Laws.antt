@@ -15,8 +15,8 @@ use Rattle.diagnostics.specs.Refusal.{refusalNumber}
 use Rattle.environment.specs.declared.RegisterSet.{RegisterSet}
 use Rattle.environment.specs.Environment.{parameters}
 use Rattle.lowering.specs.Checked.{Checked}
-use Rattle.lower_ast.specs.declared.Patched.{Patched}
-use Rattle.lower_ast.specs.Arguments.{seenDone}
+use Rattle.patch.specs.declared.Patched.{Patched}
+use Rattle.patch.specs.Arguments.{seenDone}
 use Rattle.lowering.specs.declared.State.{State}
 use Rattle.lowering.specs.Tree.{Tree, treeOf, spanStart, spanEnd}
 use Rattle.lowering.specs.Questions.{question2, question8, passed, refused, questions}
@@ -26,7 +26,7 @@ use Rattle.lowering.specs.Result as definition
 use Rattle.lowering.proofs.Questions.Checked.{and-right, questions-passed}
 use Rattle.lowering.proofs.Bound.Lowering.{jump-false-at, jump-true-at}
 use Rattle.lowering.proofs.Destinations.{patch-refusals}
-use Rattle.steps.specs.Answers.{placeAt, refusalWord, refusalOf, namesNode, errorAt, settle, settled, seen, isRefusal, valueOf, numberOfRefusal, wordEnd}
+use Rattle.steps.specs.Answers.{placeAt, refusalAt, refusalOf, namesNode, errorAt, settle, settled, seen, isRefusal, valueOf, numberOfRefusal, wordEnd}
 use Rattle.steps.proofs.Chains.{seen-word, seen-refusal}
 use Rattle.codegen.specs.Ready.{Ready}
 use Rattle.result.specs.Numbers.{refusedResult}
@@ -52,7 +52,7 @@ module _ (t : Tree) (n : ℕ) (m m′ : Made) (place : ℕ) (p : Patched) (e : p
   patched-done same few = rw (e, same) (sym (seen-word t placeAt m′ place few))
 
   pub patched-refused : {refusal : Refusal} {at : ℕ} → p ≡ Patched.Refused refusal at → at < wordEnd →
-      settled (bind (patchMarks n 0 m) (λ x. ret place)) ≡ seen t placeAt m′ (refusalWord refusal at)
+      settled (bind (patchMarks n 0 m) (λ x. ret place)) ≡ seen t placeAt m′ (refusalAt refusal at)
   unfolding seenDone bind settled errorAt namesNode
   patched-refused {refusal} {at} same few =
       let stopped : patchMarks n 0 m ≡ stops (error refusal at 0 0) m′ = rw (e, same) in
@@ -64,21 +64,21 @@ module _ (t : Tree) (n : ℕ) (m m′ : Made) (place : ℕ) (p : Patched) (e : p
       no-node (inr h) = rw h
 
 -- the numbers and the buffers of a walk: the registers of a refusal do not show
-pub numbered : (arity : ℕ) (o : Outcome ℕ) → definition.answered arity (settled o) ≡ definition.answered arity o
-unfolding definition.answered settled
+pub numbered : (arity : ℕ) (o : Outcome ℕ) → definition.loweredOf arity (settled o) ≡ definition.loweredOf arity o
+unfolding definition.loweredOf settled
 numbered arity (ends p m) = refl
 numbered arity (stops e m) = refl
 
 -- the buffers are those that are seen
 buffers : (arity : ℕ) (t : Tree) (m : Made) (a : ℕ) →
-    (definition.answered arity (seen t placeAt m a) .code ≡ m .code)
-    × ((definition.answered arity (seen t placeAt m a) .constants ≡ m .constants) × (definition.answered arity (seen t placeAt m a) .marks ≡ m .marks))
-unfolding definition.answered seen
+    (definition.loweredOf arity (seen t placeAt m a) .code ≡ m .code)
+    × ((definition.loweredOf arity (seen t placeAt m a) .constants ≡ m .constants) × (definition.loweredOf arity (seen t placeAt m a) .marks ≡ m .marks))
+unfolding definition.loweredOf seen
 buffers arity t m a = go (isRefusal a) refl
   where
     go : (b : Bool) → isRefusal a ≡ b →
-        (definition.answered arity (seen t placeAt m a) .code ≡ m .code)
-        × ((definition.answered arity (seen t placeAt m a) .constants ≡ m .constants) × (definition.answered arity (seen t placeAt m a) .marks ≡ m .marks))
+        (definition.loweredOf arity (seen t placeAt m a) .code ≡ m .code)
+        × ((definition.loweredOf arity (seen t placeAt m a) .constants ≡ m .constants) × (definition.loweredOf arity (seen t placeAt m a) .marks ≡ m .marks))
     go true h = (rw h, (rw h, rw h))
     go false h = (rw h, (rw h, rw h))
 
@@ -99,7 +99,7 @@ module _ (nodes list names : List ℕ) (mode root : ℕ) where
   module _ (refusal : Refusal) (place : ℕ) (no : questions nodes list names mode root ≡ refused refusal place) (code constants marks : List ℕ) where
     -- nothing is done
     nothing : definition.lower nodes root mode list names (words code) (words constants) (words marks)
-        ≡ definition.leaves (refusedResult refusal place) (definition.begin (words code) (words constants) (words marks) 0 (length (words names)))
+        ≡ definition.lowered (refusedResult refusal place) (definition.begin (words code) (words constants) (words marks) 0 (length (words names)))
     unfolding definition.lower definition.lowerChecked
     nothing = rw no
 
@@ -133,18 +133,18 @@ module _ (nodes list names : List ℕ) (mode root : ℕ) where
         (made (words (take nc code)) (words (take np constants)) (words (take nm marks)) (record { registers = registers; instructions = 0; constants = 0; marks = 0 })))
         ≡ seen (treeOf nodes list names) placeAt (made (words c) (words p) (words m) s) a) where
       whole : definition.lower nodes root mode list names (words code) (words constants) (words marks)
-          ≡ definition.answered arity (seen (treeOf nodes list names) placeAt (made (words c) (words p) (words m) s) a)
+          ≡ definition.loweredOf arity (seen (treeOf nodes list names) placeAt (made (words c) (words p) (words m) s) a)
       unfolding definition.lower definition.lowerChecked definition.begin
       whole =
           let count : length (words names) ≡ arity = length-words names ∙ sym h in
           let run = rw (lent-is lc, lent-is lp, lent-is lm, fresh) at e in
-          rw (yes, count) (sym (numbered arity _) ∙ ap (definition.answered arity) run)
+          rw (yes, count) (sym (numbered arity _) ∙ ap (definition.loweredOf arity) run)
 
-      pub lowered : {r : definition.Result} → r ≡ definition.answered arity (seen (treeOf nodes list names) placeAt (made (words c) (words p) (words m) s) a) .result →
+      pub lowered-numbers : {r : definition.Result} → r ≡ definition.loweredOf arity (seen (treeOf nodes list names) placeAt (made (words c) (words p) (words m) s) a) .result →
           (r ≡ definition.lower nodes root mode list names (words code) (words constants) (words marks) .result)
           × ((c ++ drop nc code ≡ bytesOf (definition.lower nodes root mode list names (words code) (words constants) (words marks) .code) ++ tail code)
           × ((p ++ drop np constants ≡ bytesOf (definition.lower nodes root mode list names (words code) (words constants) (words marks) .constants) ++ tail constants)
           × (m ++ drop nm marks ≡ bytesOf (definition.lower nodes root mode list names (words code) (words constants) (words marks) .marks) ++ tail marks)))
-      lowered told =
+      lowered-numbers told =
           let left = buffers arity (treeOf nodes list names) (made (words c) (words p) (words m) s) a in
           (rw whole told, (rw (whole, left .0) (home lc), (rw (whole, left .1 .0) (home lp), rw (whole, left .1 .1) (home lm))))

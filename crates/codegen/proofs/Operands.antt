@@ -1,5 +1,5 @@
--- What the arms of an operator, a block and a property use beside Walk and Children: a register's word, a unary operator and not as one block, and the two sources
--- of an operator. Assumes nothing.
+-- What the arms of an operator, a block and a property use beside Walk and Children: a register's word; a unary operator and not, a property, and an operator,
+-- each by the words of its node; the two sources of an operator; and two literals. Assumes nothing.
 use Prim.Native.Nat.{ℕ, _<_}
 use native.Mathlib.Decide.{ℕ-discrete}
 use mathlib.Core.Path.{_≡_, refl, sym, _∙_, subst}
@@ -25,12 +25,12 @@ use Rattle.lowering.specs.Operators.{unary, binaryRR}
 use Rattle.lowering.specs.Literals.{isLiteral, literal}
 use Rattle.lowering.specs.Lower.{Source, register, constant, source, lowerMaterializing, lowerNode, lowerExpression, binarySources}
 use Rattle.lowering.proofs.Destinations.{GivesRegister, expression-register, literal-source, bothConstant, freeSource, binary-given-back}
-use Rattle.operators.specs.Opcodes.{first, second}
+use Rattle.operators.specs.Opcodes.{firstOf, secondOf}
 use Rattle.steps.specs.Answers.{any, registerAt, destOf, literalWord, operandAt, sourceAt, settled, seen, isRefusal, valueOf, RegisterOrRefusal}
 use Rattle.steps.proofs.Chains.{got, seen-given}
 use Rattle.steps.proofs.Words.{register-value, source-operand, destOf-any}
-use Rattle.codegen.specs.Ready.{wordOf}
-use Rattle.codegen.specs.Kinds.{binaryKind, propertyKind, unaryKind, notKind, onlyOperand, twoLiterals}
+use Rattle.codegen.specs.Ready.{nodeWordOf}
+use Rattle.codegen.specs.Kinds.{binaryKind, propertyKind, unaryKind, notKind, onlyOperand, lowerLiterals}
 use Rattle.codegen.proofs.Walk.{below-of, expression-of, literal-materialized, no-register}
 
 -- ---- a register's word, by what the program asked and read
@@ -49,25 +49,25 @@ operated instruction d src = do
 
 -- its instruction, by the words of the node
 abbrev pub singleInstruction : List ℕ → ℕ → ℕ → ℕ → Instruction
-singleInstruction nodes i d a = cond (eqb (wordOf nodes i 0) unaryKind) (unary (unaryOp (wordOf nodes i 1)) d a) (Instruction.Not d a)
+singleInstruction nodes i d a = cond (eqb (nodeWordOf nodes i 0) unaryKind) (unary (unaryOp (nodeWordOf nodes i 1)) d a) (Instruction.Not d a)
 
 module _ (nodes : List ℕ) (i : ℕ) where
-  pub single-words : (opcode : ℕ) → (wordOf nodes i 0 ≡ unaryKind → (d a : ℕ) → wordsOf (unary (unaryOp (wordOf nodes i 1)) d a) ≡ opcode ∷ d ∷ a ∷ 0 ∷ []) →
-      (wordOf nodes i 0 ≢ unaryKind → (d a : ℕ) → wordsOf (Instruction.Not d a) ≡ opcode ∷ d ∷ a ∷ 0 ∷ []) → (d a : ℕ) → wordsOf (singleInstruction nodes i d a) ≡ opcode ∷ d ∷ a ∷ 0 ∷ []
-  single-words opcode u n d a = go (ℕ-discrete (wordOf nodes i 0) unaryKind)
+  pub single-words : (opcode : ℕ) → (nodeWordOf nodes i 0 ≡ unaryKind → (d a : ℕ) → wordsOf (unary (unaryOp (nodeWordOf nodes i 1)) d a) ≡ opcode ∷ d ∷ a ∷ 0 ∷ []) →
+      (nodeWordOf nodes i 0 ≢ unaryKind → (d a : ℕ) → wordsOf (Instruction.Not d a) ≡ opcode ∷ d ∷ a ∷ 0 ∷ []) → (d a : ℕ) → wordsOf (singleInstruction nodes i d a) ≡ opcode ∷ d ∷ a ∷ 0 ∷ []
+  single-words opcode u n d a = go (ℕ-discrete (nodeWordOf nodes i 0) unaryKind)
     where
-      go : Dec (wordOf nodes i 0 ≡ unaryKind) → wordsOf (singleInstruction nodes i d a) ≡ opcode ∷ d ∷ a ∷ 0 ∷ []
-      go (yes h) = rw (eq-eqb (wordOf nodes i 0) unaryKind h) (u h d a)
-      go (no h) = rw (ne-eqb (wordOf nodes i 0) unaryKind h) (n h d a)
+      go : Dec (nodeWordOf nodes i 0 ≡ unaryKind) → wordsOf (singleInstruction nodes i d a) ≡ opcode ∷ d ∷ a ∷ 0 ∷ []
+      go (yes h) = rw (eq-eqb (nodeWordOf nodes i 0) unaryKind h) (u h d a)
+      go (no h) = rw (ne-eqb (nodeWordOf nodes i 0) unaryKind h) (n h d a)
 
   module _ {operand : ℕ} (operand-word : operand ≡ onlyOperand nodes i) (list names : List ℕ) (checked : Checked (treeOf nodes list names)) where
-    pub single-below : (wordOf nodes i 0 ≡ unaryKind) ⊎ (wordOf nodes i 0 ≡ notKind) → operand < i
+    pub single-below : (nodeWordOf nodes i 0 ≡ unaryKind) ⊎ (nodeWordOf nodes i 0 ≡ notKind) → operand < i
     unfolding onlyOperand
-    single-below (inl kind) = rw (operand-word, eq-eqb (wordOf nodes i 0) unaryKind kind) (below-of checked i unaryKind kind)
+    single-below (inl kind) = rw (operand-word, eq-eqb (nodeWordOf nodes i 0) unaryKind kind) (below-of checked i unaryKind kind)
     single-below (inr kind) = rw (operand-word, kind) (below-of checked i notKind kind)
 
     -- destination, operand, and the rest
-    pub single-of : (wordOf nodes i 0 ≡ unaryKind) ⊎ (wordOf nodes i 0 ≡ notKind) → (dest : Dest) (m : Made) {r : Outcome Operand} →
+    pub single-of : (nodeWordOf nodes i 0 ≡ unaryKind) ⊎ (nodeWordOf nodes i 0 ≡ notKind) → (dest : Dest) (m : Made) {r : Outcome Operand} →
         settled (bind (destination dest m) (λ d m₁. bind (lowerMaterializing (lowerExpression freeTemp (treeOf nodes list names) operand) Dest.Any m₁) (λ src. operated (singleInstruction nodes i) d src))) ≡ r →
         settled (lowerExpression freeTemp (treeOf nodes list names) i dest m) ≡ r
     unfolding onlyOperand operated lowerNode
@@ -173,9 +173,9 @@ module _ (t : Tree) where
   -- x and y are the words of the node that name its operands
   module _ (operator : BinaryOp) {left right x y : ℕ} (left-word : left ≡ x) (right-word : right ≡ y) (d : Register) (m : Made) (v w : ℕ) {r : Outcome Operand} where
     -- "Two literals are both loaded."
-    pub then-literals : (v ≡ literalWord) × (w ≡ literalWord) → isLiteral (node t left) ≡ true → isLiteral (node t right) ≡ true → settled (twoLiterals t operator x y d m) ≡ r →
+    pub then-literals : (v ≡ literalWord) × (w ≡ literalWord) → isLiteral (node t left) ≡ true → isLiteral (node t right) ≡ true → settled (lowerLiterals t operator x y d m) ≡ r →
         settled (binarySources freeTemp t (lowerExpression freeTemp t) operator left right d (source (operandAt (node t left) v)) (source (operandAt (node t right) w)) m) ≡ r
-    unfolding operandAt binarySources twoLiterals
+    unfolding operandAt binarySources lowerLiterals
     then-literals both l l′ q =
         rw (both .0, both .1, literal-source (node t left), literal-source (node t right), literal-materialized t left l Dest.Any, literal-materialized t right l′ Dest.Any)
         (rw (← left-word, ← right-word) at q)
@@ -205,21 +205,21 @@ combined operator d src1 src2 = do
   ret (Operand.Register d)
 
 -- its fields, which may change places, by what the program has of each
-pub swapped-fields : (opcode : ℕ) {d e f g a b a′ b′ x y : ℕ} {s z : Bool} → e ≡ d → s ≡ z → f ≡ first s a b → g ≡ first s b′ a′ → a ≡ x → b ≡ y → a′ ≡ x → b′ ≡ y →
-    opcode ∷ d ∷ first z x y ∷ second z x y ∷ [] ≡ opcode ∷ e ∷ f ∷ g ∷ []
+pub swapped-fields : (opcode : ℕ) {d e f g a b a′ b′ x y : ℕ} {s z : Bool} → e ≡ d → s ≡ z → f ≡ firstOf s a b → g ≡ firstOf s b′ a′ → a ≡ x → b ≡ y → a′ ≡ x → b′ ≡ y →
+    opcode ∷ d ∷ firstOf z x y ∷ secondOf z x y ∷ [] ≡ opcode ∷ e ∷ f ∷ g ∷ []
 swapped-fields opcode p swap l r a b a′ b′ = rw (p, l, r, swap, a, b, a′, b′)
 
 -- the left is loaded, and then the rest; x, y and z are the words of the node
 pub one-loaded : (t : Tree) {left y : ℕ} {a : Operand} → left ≡ y → a ≡ literal (node t left) → (operator : BinaryOp) (z : ℕ) (d : Register) (m : Made) {r : Outcome Operand} →
     settled (bind (loadConstant a (destOf any) m) (λ src1 m₁. bind (loadConstant (literal (node t z)) Dest.Any m₁) (λ src2. combined operator d src1 src2))) ≡ r →
-    settled (twoLiterals t operator y z d m) ≡ r
-unfolding twoLiterals combined
+    settled (lowerLiterals t operator y z d m) ≡ r
+unfolding lowerLiterals combined
 one-loaded t left-word is operator z d m q = rw (← left-word, ← is) (rw destOf-any at q)
 
 -- both are
 pub two-loaded : (t : Tree) {operator left right x y z : ℕ} {a b : Operand} → operator ≡ x → left ≡ y → right ≡ z → a ≡ literal (node t left) → b ≡ literal (node t right) →
     (d : Register) (m : Made) {r : Outcome Operand} →
     settled (bind (loadConstant a (destOf any) m) (λ src1 m₁. bind (loadConstant b (destOf any) m₁) (λ src2. combined (binaryOp operator) d src1 src2))) ≡ r →
-    settled (twoLiterals t (binaryOp x) y z d m) ≡ r
+    settled (lowerLiterals t (binaryOp x) y z d m) ≡ r
 two-loaded t operator-word left-word right-word is-left is-right d m q =
     one-loaded t left-word is-left _ _ d m (rw (← operator-word, ← right-word, ← is-right, destOf-any) (rw destOf-any at q))

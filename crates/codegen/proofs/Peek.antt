@@ -19,7 +19,7 @@ use Rattle.environment.specs.declared.Taken.{Taken}
 use Rattle.environment.specs.declared.Found.{Found}
 use Rattle.environment.specs.Registers.{taken}
 use Rattle.environment.specs.Environment.{lookup}
-use Rattle.environment.proofs.Laws.{place-takes, refused, lookup-found}
+use Rattle.environment.proofs.Laws.{place-takes, take-refused, lookup-found}
 use Rattle.syntax.specs.declared.ast.Node.{Node}
 use Rattle.syntax.specs.Ast.{nodeWord, nodeAt}
 use Rattle.runtime.specs.declared.operand.Operand.{Operand}
@@ -30,15 +30,16 @@ use Rattle.lowering.specs.Checked.{Checked}
 use Rattle.lowering.specs.Walk.{Made, made, Outcome, ends, stops, Walk, bind, ret}
 use Rattle.lowering.specs.Steps.{withRegisters, allocateTemp, freeTemp, destination, loadConstant}
 use Rattle.lowering.specs.Literals.{literal}
-use Rattle.lowering.specs.Lower.{source, register, constant, materialized, moved, named, lowerMaterializing, lowerNode, lowerExpression, lowerJumpIfFalse}
+use Rattle.lowering.specs.Lower.{source, register, constant, materialized, moved, lowerName, lowerMaterializing, lowerNode, lowerExpression, lowerJumpIfFalse}
+use Rattle.lowering.specs.Trace.{registersOf}
 use Rattle.lowering.proofs.Bound.Lowering.{expression-at}
-use Rattle.lowering.proofs.Running.Steps.{Holds, fine, void, holds-ends, registersOf}
-use Rattle.lowering.proofs.Destinations.{EndsWith, GivesRegister, Stays, bind-bind, literal-source, binary-any, expression-into, expression-register, node-kind}
-use Rattle.steps.specs.declared.answer.Emitted.{Emitted}
-use Rattle.steps.specs.Answers.{none, any, registerAt, numberAt, literalWord, operandAt, sourceAt, wordEnd, refusalStart, isRefusal, valueOf, isInner, refusalWord, namesNode, errorAt, settled, seen, counted, WordOrRefusal}
+use Rattle.lowering.proofs.Running.Steps.{Holds, fine, void, holds-ends}
+use Rattle.lowering.proofs.Destinations.{OnlyAnswer, GivesRegister, Stays, bind-bind, literal-source, binary-any, expression-into, expression-register, node-kind}
+use Rattle.steps.specs.declared.answer.AnswerAndCounts.{AnswerAndCounts}
+use Rattle.steps.specs.Answers.{none, any, registerAt, numberAt, literalWord, operandAt, sourceAt, wordEnd, refusalStart, isRefusal, valueOf, isInner, refusalAt, namesNode, errorAt, settled, seen, stateOf, WordOrRefusal}
 use Rattle.steps.proofs.Chains.{got, stop, seen-given, seen-stopped, seen-word, seen-refusal, some-allocated, none-allocated}
 use Rattle.steps.proofs.Words.{registerAt-temporary, taken-number, source-operand, isRefusal-refusal, isInner-inner, valueOf-inner}
-use Rattle.codegen.specs.Ready.{wordOf}
+use Rattle.codegen.specs.Ready.{nodeWordOf}
 use Rattle.codegen.specs.Kinds.{nameKind, binaryKind}
 use Rattle.codegen.specs.Flat.{isFlat, askOperand, askRegister, askInto, needing, flatNode}
 use Rattle.codegen.proofs.Walk.{is-literal, no-literal, literal-expression, literal-materialized, in-register}
@@ -86,7 +87,7 @@ module _ (a i : ℕ) (told : a ≡ wordEnd + i) (small : i < wordEnd) where
   inner-value = rw told (valueOf-inner i small)
 
 -- what `lower_flat` left, by the answer
-module _ (nodes : List ℕ) (i : ℕ) (f : Emitted) {n p : ℕ} {A : Type 0} (small : i < wordEnd)
+module _ (nodes : List ℕ) (i : ℕ) (f : AnswerAndCounts) {n p : ℕ} {A : Type 0} (small : i < wordEnd)
     (left : isFlat nodes i ≡ false → (f ≡ record { instructions = n; constants = p; answer = wordEnd + i }) × A) where
   pub was-flat : isInner (f .answer) ≡ false → isFlat nodes i ≡ true
   was-flat h = go (isFlat nodes i) refl
@@ -95,20 +96,20 @@ module _ (nodes : List ℕ) (i : ℕ) (f : Emitted) {n p : ℕ} {A : Type 0} (sm
       go true e = e
       go false e = absurd (inner-only (f .answer) i (ap (λ x. x .answer) (left e .0)) small h)
 
-  later-kind : isFlat nodes i ≡ false → binaryKind ≤ wordOf nodes i 0
+  later-kind : isFlat nodes i ≡ false → binaryKind ≤ nodeWordOf nodes i 0
   unfolding isFlat
-  later-kind e = go (decLt (wordOf nodes i 0) binaryKind)
+  later-kind e = go (decLt (nodeWordOf nodes i 0) binaryKind)
     where
-      go : Dec (wordOf nodes i 0 < binaryKind) → binaryKind ≤ wordOf nodes i 0
-      go (yes l) = absurd (false≢true (sym e ∙ rw (ne-eqb (wordOf nodes i 0) binaryKind (omega arith), le-leb (wordOf nodes i 0) nameKind (omega arith))))
+      go : Dec (nodeWordOf nodes i 0 < binaryKind) → binaryKind ≤ nodeWordOf nodes i 0
+      go (yes l) = absurd (false≢true (sym e ∙ rw (ne-eqb (nodeWordOf nodes i 0) binaryKind (omega arith), le-leb (nodeWordOf nodes i 0) nameKind (omega arith))))
       go (no h) = omega arith
 
   -- nothing was done, and the node is an operator or of a later kind
   pub left-over : (isFlat nodes i ≡ true → WordOrRefusal (f .answer)) → isInner (f .answer) ≡ true →
-      (f ≡ record { instructions = n; constants = p; answer = wordEnd + i }) × A × (valueOf (f .answer) ≡ i) × (binaryKind ≤ wordOf nodes i 0)
+      (f ≡ record { instructions = n; constants = p; answer = wordEnd + i }) × A × (valueOf (f .answer) ≡ i) × (binaryKind ≤ nodeWordOf nodes i 0)
   left-over word h = go (isFlat nodes i) refl
     where
-      go : (b : Bool) → isFlat nodes i ≡ b → (f ≡ record { instructions = n; constants = p; answer = wordEnd + i }) × A × (valueOf (f .answer) ≡ i) × (binaryKind ≤ wordOf nodes i 0)
+      go : (b : Bool) → isFlat nodes i ≡ b → (f ≡ record { instructions = n; constants = p; answer = wordEnd + i }) × A × (valueOf (f .answer) ≡ i) × (binaryKind ≤ nodeWordOf nodes i 0)
       go true e = absurd (false≢true (sym (no-inner (f .answer) (word e)) ∙ h))
       go false e = let same = left e in (same .0, same .1, inner-value (f .answer) i (ap (λ x. x .answer) (same .0)) small, later-kind e)
 
@@ -141,7 +142,7 @@ module _ (t : Tree) (n : Node) (m m′ : Made) (a d : ℕ) {after : Taken} (took
 
       set-stays : (p : Place) → taken (registersOf m) .place ≡ p → numberAt p ≡ none → after .set ≡ registersOf m
       set-stays (Place.At r) e z = absurd (omega (arith, place-takes (registersOf m) r e .in-range))
-      set-stays (Place.Refused refusal) e z = rw took (refused (registersOf m) refusal e .unchanged)
+      set-stays (Place.Refused refusal) e z = rw took (take-refused (registersOf m) refusal e .unchanged)
 
   -- an answer that is no temporary takes none
   stays : (o : Outcome Operand) → Holds (λ x m₁. Stays (source x)) o → settled o ≡ seen t (operandAt n) (withRegisters (registersOf m) m′) a →
@@ -161,10 +162,10 @@ module _ (t : Tree) (n : Node) (m m′ : Made) (a d : ℕ) {after : Taken} (took
       go (inr l) (no q) = rw (ne-eqb a d q)
 
   -- a walk that ends in the register given, with the one taken
-  takes : (w : Register → Walk Operand) → ((e : Register) (m₁ : Made) → EndsWith (Operand.Register e) (w e m₁)) → WordOrRefusal a →
+  takes : (w : Register → Walk Operand) → ((e : Register) (m₁ : Made) → OnlyAnswer (Operand.Register e) (w e m₁)) → WordOrRefusal a →
       ((rs : RegisterSet) → settled (needing d (w (registerAt d)) (withRegisters rs m)) ≡ seen t (operandAt n) (withRegisters rs m′) a) →
       settled (bind (allocateTemp m) w) ≡ seen t (operandAt n) (keeping m (after .set) d a m′) a
-  unfolding EndsWith needing bind settled errorAt namesNode
+  unfolding OnlyAnswer needing bind settled errorAt namesNode
   takes w into word tried = go (taken-number (registersOf m) took number)
     where
       after-taken : Outcome Operand
@@ -173,7 +174,7 @@ module _ (t : Tree) (n : Node) (m m′ : Made) (a d : ℕ) {after : Taken} (took
       is-answer : d < 256 → isRefusal a ≡ false → settled after-taken ≡ seen t (operandAt n) (withRegisters (after .set) m′) a → a ≡ d
       is-answer l h e =
           let is = got after-taken (operandAt n (valueOf a)) (withRegisters (after .set) m′) (e ∙ seen-given t (operandAt n) (withRegisters (after .set) m′) a h) in
-          let same = subst (EndsWith (Operand.Register (registerAt d))) is (into (registerAt d) (withRegisters (after .set) m)) in
+          let same = subst (OnlyAnswer (Operand.Register (registerAt d))) is (into (registerAt d) (withRegisters (after .set) m)) in
           sym (word-itself a word h) ∙ word-of n (valueOf a) d (rw (registerAt-temporary d l) at same)
 
       kept : (b : Bool) → isRefusal a ≡ b → d < 256 → settled after-taken ≡ seen t (operandAt n) (withRegisters (after .set) m′) a →
@@ -183,7 +184,7 @@ module _ (t : Tree) (n : Node) (m m′ : Made) (a d : ℕ) {after : Taken} (took
 
       go : (d ≡ none) ⊎ (d < 256) → settled (bind (allocateTemp m) w) ≡ seen t (operandAt n) (keeping m (after .set) d a m′) a
       go (inl z) =
-          stop t (allocateTemp m) registerAt m (refusalWord Refusal.Registers 0) w (none-allocated m took number t z) (operandAt n) (isRefusal-refusal Refusal.Registers 0)
+          stop t (allocateTemp m) registerAt m (refusalAt Refusal.Registers 0) w (none-allocated m took number t z) (operandAt n) (isRefusal-refusal Refusal.Registers 0)
           ∙ seen-refusal t (operandAt n) m Refusal.Registers 0 (omega arith)
           ∙ (rw (eq-eqb d none z) at (tried (registersOf m)))
           ∙ ap (λ rs. seen t (operandAt n) (withRegisters rs m′) a) (sym (none-held z))
@@ -206,13 +207,13 @@ loaded t n o m a e = ap settled (sym (again o)) ∙ in-register t n Dest.Any (bi
     gives (stops f m) = tt
 
 -- the register given is the answer: of a value that was put into it, and of an operand that is in a register
-answered-into : (e : Register) (o : Outcome Register) → EndsWith e o → EndsWith (Operand.Register e) (bind o (λ r. ret (Operand.Register r)))
-unfolding EndsWith bind
+answered-into : (e : Register) (o : Outcome Register) → OnlyAnswer e o → OnlyAnswer (Operand.Register e) (bind o (λ r. ret (Operand.Register r)))
+unfolding OnlyAnswer bind
 answered-into e (ends r m) h = ap Operand.Register h
 answered-into e (stops f m) h = tt
 
-operand-into : (e : Register) (o : Outcome Operand) → GivesRegister o → EndsWith e (bind o (λ src. materialized (source src) (Dest.To e))) → EndsWith (Operand.Register e) o
-unfolding GivesRegister EndsWith bind source materialized
+operand-into : (e : Register) (o : Outcome Operand) → GivesRegister o → OnlyAnswer e (bind o (λ src. materialized (source src) (Dest.To e))) → OnlyAnswer (Operand.Register e) o
+unfolding GivesRegister OnlyAnswer bind source materialized
 operand-into e (ends (Operand.Register r) m) g h = ap Operand.Register h
 operand-into e (ends (Operand.Number x) m) g h = absurd g
 operand-into e (ends (Operand.String symbol) m) g h = absurd g
@@ -254,10 +255,10 @@ module _ {t : Tree} (checked : Checked t) (i asked : ℕ) (m m′ : Made) (a d :
     (simple : nodeWord (t .nodes) i 0 ≤ binaryKind) (word : WordOrRefusal a)
     (tried : (rs : RegisterSet) → settled (flatNode t asked d i (withRegisters rs m)) ≡ seen t (operandAt (node t i)) (withRegisters rs m′) a) where
   name-stays : nodeWord (t .nodes) i 0 ≡ nameKind → Holds (λ x m₁. Stays (source x)) (lowerExpression freeTemp t i Dest.Any m)
-  unfolding lowerNode named moved source Stays
+  unfolding lowerNode lowerName moved source Stays
   name-stays kind = rw (expression-at checked i Dest.Any, node-kind t i nameKind kind) (go (lookup (t .names) (length (t .names)) (nodeWord (t .nodes) i 1)) refl)
     where
-      go : (f : Found) → lookup (t .names) (length (t .names)) (nodeWord (t .nodes) i 1) ≡ f → Holds (λ x m₁. Stays (source x)) (named t i f Dest.Any m)
+      go : (f : Found) → lookup (t .names) (length (t .names)) (nodeWord (t .nodes) i 1) ≡ f → Holds (λ x m₁. Stays (source x)) (lowerName t i f Dest.Any m)
       go (Found.At r) e = fine (subst (λ r. Stays (register r)) (sym (lookup-found (t .names) (length (t .names)) (nodeWord (t .nodes) i 1) r e .local)) tt)
       go (Found.Refused refusal) e = void
 
@@ -273,7 +274,7 @@ module _ {t : Tree} (checked : Checked t) (i asked : ℕ) (m m′ : Made) (a d :
           (rw (name-flat t asked d i m e, ne-eqb asked askInto q) at (tried (registersOf m)))
       go (no h) =
           let kind : nodeWord (t .nodes) i 0 ≡ binaryKind = omega arith in
-          let into : (e : Register) (m₁ : Made) → EndsWith (Operand.Register e) (lowerExpression freeTemp t i (Dest.To e) m₁) =
+          let into : (e : Register) (m₁ : Made) → OnlyAnswer (Operand.Register e) (lowerExpression freeTemp t i (Dest.To e) m₁) =
           λ e m₁. operand-into e (lowerExpression freeTemp t i (Dest.To e) m₁) (expression-register t i (no-literal checked i later) (Dest.To e) m₁) (expression-into t i e m₁) in
           rw (binary-taken checked i kind m)
           (takes t (node t i) m m′ a d took number (λ e. lowerExpression freeTemp t i (Dest.To e)) into word
@@ -294,7 +295,7 @@ module _ {t : Tree} (checked : Checked t) (i asked : ℕ) (m m′ : Made) (a d :
   unfolding loadConstant destination bind
   literal-register early q =
       let load : Register → Walk Register = λ e. loadConstant (literal (node t i)) (Dest.To e) in
-      let into : (e : Register) (m₁ : Made) → EndsWith e (load e m₁) = λ e m₁. rw (literal-materialized t i (is-literal t i early) (Dest.To e)) at (expression-into t i e m₁) in
+      let into : (e : Register) (m₁ : Made) → OnlyAnswer e (load e m₁) = λ e m₁. rw (literal-materialized t i (is-literal t i early) (Dest.To e)) at (expression-into t i e m₁) in
       rw (literal-materialized t i (is-literal t i early) Dest.Any)
       (loaded t (node t i) (bind (allocateTemp m) load) (keeping m (after .set) d a m′) a
       (ap settled (bind-bind (allocateTemp m) load (λ r. ret (Operand.Register r)))
@@ -323,28 +324,28 @@ module _ {t : Tree} (checked : Checked t) (i asked : ℕ) (m m′ : Made) (a d :
           (expression-register t i (no-literal checked i later) Dest.Any m) (later-operand later (omega arith))
 
 -- the same, by what `lower_flat` ensures, and by the registers that are held afterwards
-module _ (nodes names code code′ pool pool′ : List ℕ) (i asked d : ℕ) (s : State) (rs : RegisterSet) (f : Emitted) {after : Taken} {A : Type 0} (took : after ≡ taken (s .registers))
-    (number : d ≡ numberAt (after .place)) (held : rs ≡ holding (s .registers) (after .set) d (f .answer)) (simple : wordOf nodes i 0 ≤ binaryKind) (small : i < wordEnd)
+module _ (nodes names code code′ pool pool′ : List ℕ) (i asked d : ℕ) (s : State) (rs : RegisterSet) (f : AnswerAndCounts) {after : Taken} {A : Type 0} (took : after ≡ taken (s .registers))
+    (number : d ≡ numberAt (after .place)) (held : rs ≡ holding (s .registers) (after .set) d (f .answer)) (simple : nodeWordOf nodes i 0 ≤ binaryKind) (small : i < wordEnd)
     (left : isFlat nodes i ≡ false → (f ≡ record { instructions = s .instructions; constants = s .constants; answer = wordEnd + i }) × A)
     (word : isFlat nodes i ≡ true → WordOrRefusal (f .answer))
     (tried : (list : List ℕ) (rs : RegisterSet) (n : ℕ) (m : List ℕ) → Checked (treeOf nodes list names) → isFlat nodes i ≡ true →
-    settled (flatNode (treeOf nodes list names) asked d i (made code pool m (counted rs (s .instructions) (s .constants) n)))
-    ≡ seen (treeOf nodes list names) (operandAt (nodeAt (words nodes) i)) (made code′ pool′ m (counted rs (f .instructions) (f .constants) n)) (f .answer))
+    settled (flatNode (treeOf nodes list names) asked d i (made code pool m (stateOf rs (s .instructions) (s .constants) n)))
+    ≡ seen (treeOf nodes list names) (operandAt (nodeAt (words nodes) i)) (made code′ pool′ m (stateOf rs (f .instructions) (f .constants) n)) (f .answer))
     (list m : List ℕ) (checked : Checked (treeOf nodes list names)) (told : isInner (f .answer) ≡ false) where
   pub peeked-operand : asked ≡ askOperand →
       settled (lowerExpression freeTemp (treeOf nodes list names) i Dest.Any (made code pool m s))
-      ≡ seen (treeOf nodes list names) (operandAt (nodeAt (words nodes) i)) (made code′ pool′ m (counted rs (f .instructions) (f .constants) (s .marks))) (f .answer)
+      ≡ seen (treeOf nodes list names) (operandAt (nodeAt (words nodes) i)) (made code′ pool′ m (stateOf rs (f .instructions) (f .constants) (s .marks))) (f .answer)
   peeked-operand q =
       let flat = was-flat nodes i f small left told in
       rw held
-      (flat-operand checked i asked (made code pool m s) (made code′ pool′ m (counted rs (f .instructions) (f .constants) (s .marks))) (f .answer) d took number simple (word flat)
+      (flat-operand checked i asked (made code pool m s) (made code′ pool′ m (stateOf rs (f .instructions) (f .constants) (s .marks))) (f .answer) d took number simple (word flat)
       (λ rs. tried list rs (s .marks) m checked flat) q)
 
   pub peeked-register : asked ≡ askRegister →
       settled (lowerMaterializing (lowerExpression freeTemp (treeOf nodes list names) i) Dest.Any (made code pool m s))
-      ≡ seen (treeOf nodes list names) registerAt (made code′ pool′ m (counted rs (f .instructions) (f .constants) (s .marks))) (f .answer)
+      ≡ seen (treeOf nodes list names) registerAt (made code′ pool′ m (stateOf rs (f .instructions) (f .constants) (s .marks))) (f .answer)
   peeked-register q =
       let flat = was-flat nodes i f small left told in
       rw held
-      (flat-register checked i asked (made code pool m s) (made code′ pool′ m (counted rs (f .instructions) (f .constants) (s .marks))) (f .answer) d took number simple (word flat)
+      (flat-register checked i asked (made code pool m s) (made code′ pool′ m (stateOf rs (f .instructions) (f .constants) (s .marks))) (f .answer) d took number simple (word flat)
       (λ rs. tried list rs (s .marks) m checked flat) q)

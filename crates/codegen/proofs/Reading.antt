@@ -26,12 +26,12 @@ use Rattle.lowering.specs.Checked.{Checked}
 use Rattle.lowering.specs.Walk.{Made, Outcome, bind, ret}
 use Rattle.lowering.specs.Steps.{freeTemp, emit}
 use Rattle.lowering.specs.Literals.{literal}
-use Rattle.lowering.specs.Lower.{sameRegister, moved, named, lowerMaterializing, lowerNode, expressionBelow, lowerExpression}
+use Rattle.lowering.specs.Lower.{sameRegister, moved, lowerName, lowerMaterializing, lowerNode, expressionBelow, lowerExpression}
 use Rattle.lowering.proofs.Destinations.{block-into, node-kind}
-use Rattle.steps.specs.Answers.{none, any, registerAt, destOf, operandAt, wordEnd, refusalStart, refusalWord, isRefusal, namesNode, errorAt, settled, seen}
+use Rattle.steps.specs.Answers.{none, any, registerAt, destOf, operandAt, wordEnd, refusalStart, refusalAt, isRefusal, namesNode, errorAt, settled, seen}
 use Rattle.steps.proofs.Chains.{seen-refusal}
 use Rattle.steps.proofs.Words.{registerAt-local}
-use Rattle.codegen.specs.Ready.{InArena, wordOf}
+use Rattle.codegen.specs.Ready.{InArena, nodeWordOf}
 use Rattle.codegen.specs.Kinds.{nameKind, binaryKind, blockKind, keyOperand, isCompared}
 use Rattle.codegen.specs.Flat.{Falling, foundAt, LocalOr}
 use Rattle.codegen.proofs.Walk.{ended}
@@ -81,7 +81,7 @@ Comes nodes node n =
     ≡ lowerMaterializing (lowerExpression freeTemp (treeOf nodes list names) n) (Dest.To d) m)
 
 module _ {nodes : List ℕ} (falling : Falling nodes) {node n kind tail : ℕ} (comes : Comes nodes node n)
-    (kind-read : kind ≡ wordOf nodes n 0) (block : kind ≡ blockKind) (tail-read : tail ≡ wordOf nodes n 1) (some : tail ≢ absent) where
+    (kind-read : kind ≡ nodeWordOf nodes n 0) (block : kind ≡ blockKind) (tail-read : tail ≡ nodeWordOf nodes n 1) (some : tail ≢ absent) where
   pub tail-below : tail < n
   tail-below = rw tail-read (falling .tail n (comes .0 .0) (sym kind-read ∙ block) (rw tail-read at some))
 
@@ -145,23 +145,23 @@ another-small dest w h another = go (ℕ-discrete dest any)
 module _ (t : Tree) (i : ℕ) (m : Made) where
   -- a name is lowered by what was found of it
   pub named-at : (dest : Dest) {f : Found} → nodeWord (t .nodes) i 0 ≡ nameKind → f ≡ lookup (t .names) (length (t .names)) (nodeWord (t .nodes) i 1) →
-      lowerExpression freeTemp t i dest m ≡ named t i f dest m
+      lowerExpression freeTemp t i dest m ≡ lowerName t i f dest m
   unfolding lowerExpression expressionBelow lowerNode
   named-at dest kind found = rw (node-kind t i nameKind kind, ← found)
 
   pub name-of : (dest : Dest) {f : Found} {r : Outcome Operand} → nodeWord (t .nodes) i 0 ≡ nameKind → f ≡ lookup (t .names) (length (t .names)) (nodeWord (t .nodes) i 1) →
-      settled (named t i f dest m) ≡ r → settled (lowerExpression freeTemp t i dest m) ≡ r
+      settled (lowerName t i f dest m) ≡ r → settled (lowerExpression freeTemp t i dest m) ≡ r
   name-of dest kind found q = ap settled (named-at dest kind found) ∙ q
 
   -- it is not declared
-  pub name-undeclared : (dest : Dest) (gives : ℕ → Operand) {w : ℕ} → i < wordEnd → w ≡ none → settled (named t i (foundAt w) dest m) ≡ seen t gives m (refusalWord Refusal.Undeclared i)
-  unfolding named foundAt settled errorAt namesNode
+  pub name-undeclared : (dest : Dest) (gives : ℕ → Operand) {w : ℕ} → i < wordEnd → w ≡ none → settled (lowerName t i (foundAt w) dest m) ≡ seen t gives m (refusalAt Refusal.Undeclared i)
+  unfolding lowerName foundAt settled errorAt namesNode
   name-undeclared dest gives {w} h e = rw (eq-eqb w none e) (sym (seen-refusal t gives m Refusal.Undeclared i h))
 
   module _ {dest w : ℕ} (dest-small : dest ≤ any) (local : LocalOr w) (declared : w ≢ none) where
     -- any register will do, or its own was asked for
-    pub name-own : (n : Node) → eqb dest any || eqb dest w ≡ true → settled (named t i (foundAt w) (destOf dest) m) ≡ seen t (operandAt n) m w
-    unfolding named foundAt moved destOf settled
+    pub name-own : (n : Node) → eqb dest any || eqb dest w ≡ true → settled (lowerName t i (foundAt w) (destOf dest) m) ≡ seen t (operandAt n) m w
+    unfolding lowerName foundAt moved destOf settled
     name-own n own = rw (ne-eqb w none declared) (go (ℕ-discrete dest any))
       where
         go : Dec (dest ≡ any) → settled (moved t (registerAt w) (cond (eqb dest any) Dest.Any (Dest.To (registerAt dest))) m) ≡ seen t (operandAt n) m w
@@ -174,8 +174,8 @@ module _ (t : Tree) (i : ℕ) (m : Made) where
     -- another one was
     pub name-moved : {r : Outcome Operand} → eqb dest any || eqb dest w ≡ false →
         settled (bind (emit (Instruction.Move (regOf (registerAt dest)) (regOf (registerAt w))) m) (λ p. ret (Operand.Register (registerAt dest)))) ≡ r →
-        settled (named t i (foundAt w) (destOf dest) m) ≡ r
-    unfolding named foundAt moved destOf
+        settled (lowerName t i (foundAt w) (destOf dest) m) ≡ r
+    unfolding lowerName foundAt moved destOf
     name-moved another q =
         let small = another-small dest w dest-small another in
         let e : dest ≢ any = omega arith in

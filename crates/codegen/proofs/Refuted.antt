@@ -16,13 +16,13 @@ use Rattle.runtime.specs.Function.{emitInstruction, storeConstant}
 use Rattle.runtime.specs.Instruction.{wordsOf, hasDestination, offsetWord, decode}
 use Rattle.runtime.specs.Operands.{regOf}
 use Rattle.runtime.specs.Value.{numberOf, constantWords}
-use Rattle.lowering.specs.Lower.{source, sameRegister, nameOf, materialized, lowerMaterializing, moved, named, binarySources, lowerArguments, storeNamed, storeKeyed, lowerEntry, lowerEntries, lowerElse, lowerTail, lowerNode, tested, fusedSources, fused, jumpNode, lowerExpression, lowerJumpIfFalse, lowerJumpIfTrue, expressionBelow, jumpBelow}
+use Rattle.lowering.specs.Lower.{source, sameRegister, nameOf, materialized, lowerMaterializing, moved, lowerName, binarySources, lowerArguments, storeNamed, storeKeyed, lowerEntry, lowerEntries, lowerElse, lowerTail, lowerNode, test, fusedSources, fuse, jumpNode, lowerExpression, lowerJumpIfFalse, lowerJumpIfTrue, expressionBelow, jumpBelow}
 use Rattle.lowering.specs.Operators.{binaryRR, binaryRK, binaryKR, unary, comparison, jumpRR, jumpRK, jumpKR, jumpIf}
 use Rattle.lowering.specs.Questions.{whole, question1, question2, question3, question4, question5, question6, allBelow, question7, question8, askNode, askNodes, questions}
-use Rattle.lowering.specs.Steps.{placed, registered, allocateTemp, freeTemp, destination, emit, store, loadConstant, withOffset, patchToNext, mark, patchArgument, patchMarks, patchArguments}
+use Rattle.lowering.specs.Steps.{placed, registered, allocateTemp, freeTemp, destination, emit, store, loadConstant, putOffset, patchToNext, mark, patchArgument, patchMarks, patchArguments}
 use Rattle.lowering.specs.Tree.{present, entryNodes, children}
-use Rattle.lowering.specs.Walk.{bind, left}
-use Rattle.lowering.specs.Result.{Lowered, result, begin, lowerRoot, answered, lowerChecked, lower}
+use Rattle.lowering.specs.Walk.{bind, madeOf}
+use Rattle.lowering.specs.Result.{Lowered, result, begin, lowerRoot, loweredOf, lowerChecked, lower}
 use Rattle.lowering.specs.Pool.{Pool}
 use Rattle.lowering.specs.Examples.{pageNodes, pageWith}
 use Rattle.lowering.proofs.Walk.Refuted.{walked}
@@ -38,12 +38,12 @@ PoolOf = Pool (bytesOf pageNodes) 5 0 [] (bytesOf (7 ∷ [])) (replicate 32 9) (
 abbrev wrongPool : List ℕ
 wrongPool = 2 ∷ 0 ∷ 1074266112 ∷ 2 ∷ 0 ∷ 1072693249 ∷ 2 ∷ 0 ∷ 1073741824 ∷ replicate 3 9
 
-page-pool : getD (recordAt 3 (left walked .constants) 1) 2 0 ≡ 1072693248
-unfolding left ofBits toBits nanBits capacity recordAt putRecord sameWords isAt positionFrom position append wordOf words tail bytesOf bit clear flip found allocated freed parameters lookup free takeOut putBack smallestFrom smallestFree allFree without taken givenBack nodeWord nodeAt binaryOp unaryOp emitInstruction storeConstant wordsOf hasDestination offsetWord regOf numberOf constantWords source sameRegister nameOf materialized lowerMaterializing moved named binarySources lowerArguments storeNamed storeKeyed lowerEntry lowerEntries lowerElse lowerTail lowerNode tested fusedSources fused jumpNode lowerExpression lowerJumpIfFalse lowerJumpIfTrue expressionBelow jumpBelow binaryRR binaryRK binaryKR unary comparison jumpRR jumpRK jumpKR jumpIf whole question1 question2 question3 question4 question5 question6 allBelow question7 question8 askNode askNodes questions begin lowerRoot answered lowerChecked lower placed registered allocateTemp freeTemp destination emit store loadConstant withOffset patchToNext mark patchArgument patchMarks patchArguments present entryNodes children bind
+page-pool : getD (recordAt 3 (madeOf walked .constants) 1) 2 0 ≡ 1072693248
+unfolding madeOf ofBits toBits nanBits capacity recordAt putRecord sameWords isAt positionFrom position append wordOf words tail bytesOf bit clear flip found allocated freed parameters lookup free takeOut putBack smallestFrom smallestFree allFree without taken givenBack nodeWord nodeAt binaryOp unaryOp emitInstruction storeConstant wordsOf hasDestination offsetWord regOf numberOf constantWords source sameRegister nameOf materialized lowerMaterializing moved lowerName binarySources lowerArguments storeNamed storeKeyed lowerEntry lowerEntries lowerElse lowerTail lowerNode test fusedSources fuse jumpNode lowerExpression lowerJumpIfFalse lowerJumpIfTrue expressionBelow jumpBelow binaryRR binaryRK binaryKR unary comparison jumpRR jumpRK jumpKR jumpIf whole question1 question2 question3 question4 question5 question6 allBelow question7 question8 askNode askNodes questions begin lowerRoot loweredOf lowerChecked lower placed registered allocateTemp freeTemp destination emit store loadConstant putOffset patchToNext mark patchArgument patchMarks patchArguments present entryNodes children bind
 page-pool = refl
 
-page-count : left walked .state .constants ≡ 3
-unfolding left ofBits toBits nanBits capacity recordAt putRecord sameWords isAt positionFrom position append wordOf words tail bytesOf bit clear flip found allocated freed parameters lookup free takeOut putBack smallestFrom smallestFree allFree without taken givenBack nodeWord nodeAt binaryOp unaryOp emitInstruction storeConstant wordsOf hasDestination offsetWord regOf numberOf constantWords source sameRegister nameOf materialized lowerMaterializing moved named binarySources lowerArguments storeNamed storeKeyed lowerEntry lowerEntries lowerElse lowerTail lowerNode tested fusedSources fused jumpNode lowerExpression lowerJumpIfFalse lowerJumpIfTrue expressionBelow jumpBelow binaryRR binaryRK binaryKR unary comparison jumpRR jumpRK jumpKR jumpIf whole question1 question2 question3 question4 question5 question6 allBelow question7 question8 askNode askNodes questions begin lowerRoot answered lowerChecked lower placed registered allocateTemp freeTemp destination emit store loadConstant withOffset patchToNext mark patchArgument patchMarks patchArguments present entryNodes children bind
+page-count : madeOf walked .state .constants ≡ 3
+unfolding madeOf ofBits toBits nanBits capacity recordAt putRecord sameWords isAt positionFrom position append wordOf words tail bytesOf bit clear flip found allocated freed parameters lookup free takeOut putBack smallestFrom smallestFree allFree without taken givenBack nodeWord nodeAt binaryOp unaryOp emitInstruction storeConstant wordsOf hasDestination offsetWord regOf numberOf constantWords source sameRegister nameOf materialized lowerMaterializing moved lowerName binarySources lowerArguments storeNamed storeKeyed lowerEntry lowerEntries lowerElse lowerTail lowerNode test fusedSources fuse jumpNode lowerExpression lowerJumpIfFalse lowerJumpIfTrue expressionBelow jumpBelow binaryRR binaryRK binaryKR unary comparison jumpRR jumpRK jumpKR jumpIf whole question1 question2 question3 question4 question5 question6 allBelow question7 question8 askNode askNodes questions begin lowerRoot loweredOf lowerChecked lower placed registered allocateTemp freeTemp destination emit store loadConstant putOffset patchToNext mark patchArgument patchMarks patchArguments present entryNodes children bind
 page-count = refl
 
 wrong-word : getD (recordAt 3 wrongPool 1) 2 0 ≡ 1072693249

@@ -18,12 +18,12 @@ use Rattle.lowering.specs.declared.Dest.{Dest}
 use Rattle.lowering.specs.Tree.{Tree, treeOf, node}
 use Rattle.lowering.specs.Checked.{Checked, Below}
 use Rattle.lowering.specs.Walk.{Made, Outcome, ends, Walk, bind, ret}
-use Rattle.lowering.specs.Steps.{freeTemp, loadConstant, withRegisters, withCode, withOffset, patchToNext}
+use Rattle.lowering.specs.Steps.{freeTemp, loadConstant, withRegisters, withCode, putOffset, patchToNext}
 use Rattle.lowering.specs.Literals.{isLiteral, literal}
 use Rattle.lowering.specs.Lower.{source, constant, materialized, lowerMaterializing, lowerNode, expressionBelow, jumpBelow, lowerExpression, lowerJumpIfFalse}
 use Rattle.lowering.proofs.Questions.Checked.{kind-word, checked-at, checked-below}
 use Rattle.lowering.proofs.Bound.Lowering.{expression-at}
-use Rattle.lowering.proofs.Destinations.{ends-with, GivesRegister, expression-into, expression-register, literal-source, literal-of, literal-loaded, freeSource, node-kind}
+use Rattle.lowering.proofs.Destinations.{only-answer, GivesRegister, expression-into, expression-register, literal-source, literal-of, literal-loaded, freeSource, node-kind}
 use Rattle.steps.specs.Answers.{any, registerAt, destOf, literalWord, operandAt, sourceAt, settled, seen, isRefusal, isInner, valueOf}
 use Rattle.steps.proofs.Chains.{got, then, stop, seen-given, seen-word}
 use Rattle.steps.proofs.Words.{freed-word, freed-literal, destOf-any, destOf-to}
@@ -33,15 +33,15 @@ use Rattle.codegen.specs.Flat.{Falling}
 -- ---- a node by its kind
 
 -- the node of a kind with the words of node i
-abbrev pub kindOf : Tree → ℕ → ℕ → Node
-kindOf t i k = getD nodeKinds k (λ a b c. Node.Nil) (nodeWord (t .nodes) i 1) (nodeWord (t .nodes) i 2) (nodeWord (t .nodes) i 3)
+abbrev pub nodeOfKind : Tree → ℕ → ℕ → Node
+nodeOfKind t i k = getD nodeKinds k (λ a b c. Node.Nil) (nodeWord (t .nodes) i 1) (nodeWord (t .nodes) i 2) (nodeWord (t .nodes) i 3)
 
 module _ {t : Tree} (checked : Checked t) (i k : ℕ) (kind : nodeWord (t .nodes) i 0 ≡ k) where
-  pub below-of : Below t i (kindOf t i k)
+  pub below-of : Below t i (nodeOfKind t i k)
   below-of = subst (λ n. Below t i n) (node-kind t i k kind) (checked-below checked i)
 
   pub expression-of : (dest : Dest) (m : Made) {r : Outcome Operand} →
-      settled (lowerNode freeTemp t (lowerExpression freeTemp t) (lowerJumpIfFalse freeTemp t) i (kindOf t i k) dest m) ≡ r → settled (lowerExpression freeTemp t i dest m) ≡ r
+      settled (lowerNode freeTemp t (lowerExpression freeTemp t) (lowerJumpIfFalse freeTemp t) i (nodeOfKind t i k) dest m) ≡ r → settled (lowerExpression freeTemp t i dest m) ≡ r
   expression-of dest m q = rw (expression-at checked i dest, node-kind t i k kind) q
 
 -- what the flat nodes ask of the arena
@@ -184,7 +184,7 @@ module _ (t : Tree) {B : Type 0} (m : Made) (k : Register → Walk B) where
   pub then-into : (n : ℕ) (d : Register) (m₂ : Made) (b : ℕ) {r : Outcome B} → settled (lowerMaterializing (lowerExpression freeTemp t n) (Dest.To d) m) ≡ seen t registerAt m₂ b →
       isRefusal b ≡ false → settled (k d m₂) ≡ r → settled (bind (lowerMaterializing (lowerExpression freeTemp t n) (Dest.To d) m) k) ≡ r
   then-into n d m₂ b e h q =
-      ap settled (ends-with d _ k (expression-into t n d m)) ∙ then t _ registerAt m₂ b (λ y. k d) e h q
+      ap settled (only-answer d _ k (expression-into t n d m)) ∙ then t _ registerAt m₂ b (λ y. k d) e h q
 
 -- a register given back, and what a source held, by what `give_back` answers
 pub then-freed : {B : Type 0} (m : Made) (w : ℕ) {registers : RegisterSet} (k : Unit {0} → Walk B) {r : Outcome B} → registers ≡ givenBack (m .state .registers) w →
@@ -202,7 +202,7 @@ then-freed-source m c w k {r} same q = go (ℕ-discrete w literalWord)
     go (no h) = rw (ne-eqb w literalWord h) (then-freed m w k same q)
 
 -- a jump patched to the next instruction
-pub then-patched : {B : Type 0} (m : Made) (j : ℕ) (code : List ℕ) (k : Unit {0} → Walk B) {r : Outcome B} → code ≡ withOffset (m .code) j (m .state .instructions - j) →
+pub then-patched : {B : Type 0} (m : Made) (j : ℕ) (code : List ℕ) (k : Unit {0} → Walk B) {r : Outcome B} → code ≡ putOffset (m .code) j (m .state .instructions - j) →
     settled (k tt (withCode code (m .state .instructions) m)) ≡ r → settled (bind (patchToNext j m) k) ≡ r
 unfolding patchToNext bind
 then-patched m j code k same q = rw (← same) q

@@ -25,11 +25,11 @@ use Rattle.runtime.specs.Value.{numberOf, numberBits, constantWords}
 use Rattle.runtime.specs.Function.{maxInstructions}
 use Rattle.runtime.proofs.Encoding.{kind-le, length-words-of}
 use Rattle.lowering.specs.Tree.{Tree}
-use Rattle.lowering.specs.Walk.{Made, Outcome, Walk, left}
-use Rattle.lowering.specs.Steps.{withOffset}
+use Rattle.lowering.specs.Walk.{Made, Outcome, Walk, madeOf}
+use Rattle.lowering.specs.Steps.{putOffset}
 use Rattle.lowering.specs.Result.{Result, Lowered, begin, lower}
-use Rattle.lowering.specs.Fields.{Field, reg, index, arguments, offset, unused, limit, Narrow, fieldOf}
-use Rattle.lowering.specs.Trace.{Runs, Step, takes, gives, leaves, emits, finds, pools, patches, marks, moves, refuses, constantOfNode, instructionsOf, constantsOf}
+use Rattle.lowering.specs.Fields.{Field, reg, index, arguments, offset, unused, limit, Narrow, fieldAt}
+use Rattle.lowering.specs.Trace.{Runs, Step, takes, gives, keeps, emits, finds, pools, patches, marks, moves, refuses, constantOfNode, instructionsOf, constantsOf}
 use Rattle.lowering.proofs.Walk.StepLaws.{along}
 use Rattle.lowering.proofs.Walk.NothingBeyond.{Grows, grows-refl, grows-trans, grows-each}
 use Rattle.lowering.proofs.Walk.LowerRuns.{Came, before, accepted, stopped, lower-came}
@@ -154,9 +154,9 @@ limit-small top h unused = omega arith
 
 instruction-words : (i : Instruction) (top : ℕ) → top ≤ 4096 → Narrow top (wordsOf i) → Words (wordsOf i)
 instruction-words i top h n zero = omega (arith, kind-le i)
-instruction-words i top h n (suc zero) = lt-of-lt-of-le (n .0) (limit-small top h (fieldOf (getD (wordsOf i) 0 0) 0))
-instruction-words i top h n (suc (suc zero)) = lt-of-lt-of-le (n .1) (limit-small top h (fieldOf (getD (wordsOf i) 0 0) 1))
-instruction-words i top h n (suc (suc (suc zero))) = lt-of-lt-of-le (n .2) (limit-small top h (fieldOf (getD (wordsOf i) 0 0) 2))
+instruction-words i top h n (suc zero) = lt-of-lt-of-le (n .0) (limit-small top h (fieldAt (getD (wordsOf i) 0 0) 0))
+instruction-words i top h n (suc (suc zero)) = lt-of-lt-of-le (n .1) (limit-small top h (fieldAt (getD (wordsOf i) 0 0) 1))
+instruction-words i top h n (suc (suc (suc zero))) = lt-of-lt-of-le (n .2) (limit-small top h (fieldAt (getD (wordsOf i) 0 0) 2))
 instruction-words i top h n (suc (suc (suc (suc k)))) =
     rw (List·getD-eq-default (wordsOf i) 0 {n = suc (suc (suc (suc k)))} (omega (arith, length-words-of i))) (omega arith)
 
@@ -221,26 +221,26 @@ node-words nodes h i =
 abbrev AllWords : Made → Type 0
 AllWords m = Words (m .code) × Words (m .constants) × Words (m .marks)
 
-record Kept (m n : Made) : Type 0 where
+record WordsKept (m n : Made) : Type 0 where
   pub grows : Grows m n
   pub words : constantsOf n ≤ 4096 → instructionsOf n ≤ maxInstructions → AllWords m → AllWords n
 
-kept-refl : (m : Made) → Kept m m
-kept-refl m = record { grows = grows-refl m; words = λ a b h. h }
+words-kept-refl : (m : Made) → WordsKept m m
+words-kept-refl m = record { grows = grows-refl m; words = λ a b h. h }
 
-kept-trans : (m n o : Made) → Kept m n → Kept n o → Kept m o
-kept-trans m n o a b = record {
+words-kept-trans : (m n o : Made) → WordsKept m n → WordsKept n o → WordsKept m o
+words-kept-trans m n o a b = record {
   grows = grows-trans m n o (a .grows) (b .grows);
   words = λ x y h. b .words x y (a .words (omega (arith, b .grows .constants)) (omega (arith, b .grows .instructions)) h);
 }
 
 module _ {t : Tree} {root : ℕ} (tree : Words (t .nodes)) where
-  kept-each : {A : Type 0} {w : Walk A} {m : Made} {o : Outcome A} → Step t root A w m o → constantsOf (left o) ≤ 4096 → instructionsOf (left o) ≤ maxInstructions →
-      AllWords m → AllWords (left o)
-  unfolding left withOffset
+  kept-each : {A : Type 0} {w : Walk A} {m : Made} {o : Outcome A} → Step t root A w m o → constantsOf (madeOf o) ≤ 4096 → instructionsOf (madeOf o) ≤ maxInstructions →
+      AllWords m → AllWords (madeOf o)
+  unfolding madeOf putOffset
   kept-each (takes k) x y h = h
   kept-each (gives r k) x y h = h
-  kept-each (leaves r) x y h = h
+  kept-each (keeps r) x y h = h
   kept-each {m = m} (emits i f l k) x y h = (put-words 4 (m .code) (instructionsOf m) (wordsOf i) (h .0) (instruction-words i (constantsOf m) x f), h .1, h .2)
   kept-each (finds c l e f) x y h = h
   kept-each {m = m} (pools {c = c} o f k) x y h =
@@ -251,15 +251,15 @@ module _ {t : Tree} {root : ℕ} (tree : Words (t .nodes)) where
   kept-each {m = m} (moves place l k b) x y h = (set-words (m .code) _ _ (h .0) (omega arith), h .1, h .2)
   kept-each (refuses q o) x y h = h
 
-  kept : {A : Type 0} {w : Walk A} {m : Made} {o : Outcome A} → Runs t root A w m o → Kept m (left o)
-  kept r = along Kept kept-refl kept-trans (λ A w m o s. record { grows = grows-each s; words = kept-each s }) r
+  kept : {A : Type 0} {w : Walk A} {m : Made} {o : Outcome A} → Runs t root A w m o → WordsKept m (madeOf o)
+  kept r = along WordsKept words-kept-refl words-kept-trans (λ A w m o s. record { grows = grows-each s; words = kept-each s }) r
 
 -- ---- of `lower`
 
 module _ (nodes : List ℕ) (root mode : ℕ) (list names code constants marks : List ℕ) (tree : Words (words nodes)) (c : Words code) (p : Words constants) (m : Words marks) where
   came-words : {l : Lowered} → Came nodes root mode list names code constants marks l → l .result .constants ≤ 4096 → l .result .instructions ≤ maxInstructions →
       Words (l .code) × Words (l .constants) × Words (l .marks)
-  unfolding left begin
+  unfolding madeOf begin
   came-words (before h) x y = (c, p, m)
   came-words (accepted a e r) x y = kept tree r .words x y (c, p, m)
   came-words (stopped a e r o) x y = kept tree r .words x y (c, p, m)

@@ -18,32 +18,32 @@ use Rattle.lowering.specs.Walk.{stops, Walk, bind, _>>=_, ret, unnamed}
 use Rattle.lowering.specs.Steps.{freeTemp, loadConstant}
 use Rattle.lowering.specs.Literals.{literal}
 use Rattle.lowering.specs.Lower.{lowerExpression}
-use Rattle.steps.specs.declared.answer.Lowered.{Lowered}
+use Rattle.steps.specs.declared.answer.AnswerAndState.{AnswerAndState}
 use Rattle.steps.specs.Answers.{none, any, registerAt}
-use Rattle.codegen.specs.Ready.{InArena, wordOf}
+use Rattle.codegen.specs.Ready.{InArena, nodeWordOf}
 use Rattle.codegen.specs.Kinds.{nameKind, binaryKind, blockKind}
 
 -- what the flat nodes ask of the arena: the operands of an operator, and the tail of a block, are lower
 pub record Falling (nodes : List ℕ) : Type 0 where
-  pub left : (i : ℕ) → InArena nodes i → wordOf nodes i 0 ≡ binaryKind → wordOf nodes i 2 < i
-  pub right : (i : ℕ) → InArena nodes i → wordOf nodes i 0 ≡ binaryKind → wordOf nodes i 3 < i
-  pub tail : (i : ℕ) → InArena nodes i → wordOf nodes i 0 ≡ blockKind → wordOf nodes i 1 ≢ absent → wordOf nodes i 1 < i
+  pub left : (i : ℕ) → InArena nodes i → nodeWordOf nodes i 0 ≡ binaryKind → nodeWordOf nodes i 2 < i
+  pub right : (i : ℕ) → InArena nodes i → nodeWordOf nodes i 0 ≡ binaryKind → nodeWordOf nodes i 3 < i
+  pub tail : (i : ℕ) → InArena nodes i → nodeWordOf nodes i 0 ≡ blockKind → nodeWordOf nodes i 1 ≢ absent → nodeWordOf nodes i 1 < i
 
 -- the register that a flat node is given: none, or a temporary's or local's word
 abbrev pub Given : ℕ → Type 0
 Given d = (d ≡ none) ⊎ (d < any)
 
 -- a node to look at
-abbrev pub Seen : List ℕ → List ℕ → ℕ → Type 0
-Seen nodes names i = Falling nodes × ((length (words names) ≤ 256) × InArena nodes i)
+abbrev pub FlatReady : List ℕ → List ℕ → ℕ → Type 0
+FlatReady nodes names i = Falling nodes × ((length (words names) ≤ 256) × InArena nodes i)
 
 -- two nodes are literals or names, and not both literals
 unfoldable pub areLeaves : List ℕ → ℕ → ℕ → Bool
 areLeaves nodes left right =
-    leb (wordOf nodes left 0) nameKind && leb (wordOf nodes right 0) nameKind && (eqb (wordOf nodes left 0) nameKind || eqb (wordOf nodes right 0) nameKind)
+    leb (nodeWordOf nodes left 0) nameKind && leb (nodeWordOf nodes right 0) nameKind && (eqb (nodeWordOf nodes left 0) nameKind || eqb (nodeWordOf nodes right 0) nameKind)
 
 unfoldable pub isFlat : List ℕ → ℕ → Bool
-isFlat nodes i = cond (eqb (wordOf nodes i 0) binaryKind) (areLeaves nodes (wordOf nodes i 2) (wordOf nodes i 3)) (leb (wordOf nodes i 0) nameKind)
+isFlat nodes i = cond (eqb (nodeWordOf nodes i 0) binaryKind) (areLeaves nodes (nodeWordOf nodes i 2) (nodeWordOf nodes i 3)) (leb (nodeWordOf nodes i 0) nameKind)
 
 -- a name's register by its word: `none` where it is not declared
 unfoldable pub foundAt : ℕ → Found
@@ -77,5 +77,5 @@ flatNode t asked d i =
     (needing d (lowerExpression freeTemp t i (Dest.To (registerAt d)))))
 
 -- nothing was done: the state and both buffers are as they were
-abbrev pub Untouched : (code code′ constants constants′ : List ℕ) → State → Lowered → Type 0
-Untouched code code′ constants constants′ state r = (r .state ≡ state) × ((words code′ ≡ words code) × (words constants′ ≡ words constants))
+abbrev pub NothingDone : (code code′ constants constants′ : List ℕ) → State → AnswerAndState → Type 0
+NothingDone code code′ constants constants′ state r = (r .state ≡ state) × ((words code′ ≡ words code) × (words constants′ ≡ words constants))

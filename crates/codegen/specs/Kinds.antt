@@ -8,7 +8,7 @@ use Rattle.syntax.specs.declared.ast.Node.{Node}
 use Rattle.syntax.specs.declared.ops.BinaryOp.{BinaryOp}
 use Rattle.runtime.specs.declared.operand.Operand.{Operand}
 use Rattle.runtime.specs.Operands.{regOf}
-use Rattle.operators.specs.Opcodes.{compares}
+use Rattle.operators.specs.Opcodes.{isComparison}
 use Rattle.lowering.specs.declared.Dest.{Dest}
 use Rattle.lowering.specs.Tree.{Tree, node}
 use Rattle.lowering.specs.Walk.{Walk, bind, _>>=_, _>>_, ret}
@@ -16,7 +16,7 @@ use Rattle.lowering.specs.Steps.{freeTemp, emit, loadConstant}
 use Rattle.lowering.specs.Operators.{binaryRR}
 use Rattle.lowering.specs.Literals.{literal}
 use Rattle.steps.specs.Answers.{literalWord}
-use Rattle.codegen.specs.Ready.{wordOf}
+use Rattle.codegen.specs.Ready.{nodeWordOf}
 
 abbrev pub nameKind : ℕ
 nameKind = 4
@@ -53,7 +53,7 @@ mapKind = 14
 
 -- the operand of a unary operator, or of not
 unfoldable pub onlyOperand : List ℕ → ℕ → ℕ
-onlyOperand nodes i = cond (eqb (wordOf nodes i 0) unaryKind) (wordOf nodes i 2) (wordOf nodes i 1)
+onlyOperand nodes i = cond (eqb (nodeWordOf nodes i 0) unaryKind) (nodeWordOf nodes i 2) (nodeWordOf nodes i 1)
 
 -- a key that is pooled: a literal, or the name itself as a string
 unfoldable pub keyOperand : Node → Operand
@@ -84,7 +84,7 @@ isCompared (Node.String symbol) = false
 isCompared (Node.Boolean b) = false
 isCompared Node.Nil = false
 isCompared (Node.Identifier symbol) = false
-isCompared (Node.Binary operator left right) = compares operator
+isCompared (Node.Binary operator left right) = isComparison operator
 isCompared (Node.Unary operator operand) = false
 isCompared (Node.LogicalNot operand) = false
 isCompared (Node.LogicalAnd left right) = false
@@ -96,8 +96,8 @@ isCompared (Node.PropertyAccess object property) = false
 isCompared (Node.Map first count) = false
 
 -- "Two literals are both loaded."
-unfoldable pub twoLiterals : Tree → BinaryOp → ℕ → ℕ → Register → Walk Operand
-twoLiterals t operator left right d = do
+unfoldable pub lowerLiterals : Tree → BinaryOp → ℕ → ℕ → Register → Walk Operand
+lowerLiterals t operator left right d = do
   src1 ← loadConstant (literal (node t left)) Dest.Any
   src2 ← loadConstant (literal (node t right)) Dest.Any
   emit (binaryRR operator (regOf d) (regOf src1) (regOf src2))

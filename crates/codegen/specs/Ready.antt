@@ -11,7 +11,7 @@ use Rattle.lowering.specs.declared.State.{State}
 use Rattle.lowering.specs.Tree.{Tree, treeOf}
 use Rattle.lowering.specs.Checked.{Checked}
 use Rattle.lowering.specs.Walk.{Walk, made}
-use Rattle.steps.specs.declared.answer.Lowered.{Lowered}
+use Rattle.steps.specs.declared.answer.AnswerAndState.{AnswerAndState}
 use Rattle.steps.specs.Answers.{any, settled, seen}
 
 -- a node of the arena
@@ -19,8 +19,8 @@ abbrev pub InArena : List ℕ → ℕ → Type 0
 InArena nodes i = i < capacity nodeWidth (words nodes)
 
 -- word k of a node, by the arena's bytes
-abbrev pub wordOf : List ℕ → ℕ → ℕ → ℕ
-wordOf nodes i k = nodeWord (words nodes) i k
+abbrev pub nodeWordOf : List ℕ → ℕ → ℕ → ℕ
+nodeWordOf nodes i k = nodeWord (words nodes) i k
 
 -- a tree that passed the questions, and a node of it
 abbrev pub Ready : List ℕ → List ℕ → List ℕ → ℕ → Type 0
@@ -35,7 +35,7 @@ abbrev pub EntryBelow : ℕ → ℕ → ℕ → Type 0
 EntryBelow i key value = (key < i) × (value < i)
 
 -- the program lowers as the walk w of the definition: what it answers, and the words that it leaves of the three buffers
-abbrev pub Lowers : {A : Type 0} → (Tree → ℕ → A) → (Tree → Walk A) → (nodes list names code constants marks code′ constants′ marks′ : List ℕ) → State → Lowered → Type 0
+abbrev pub Lowers : {A : Type 0} → (Tree → ℕ → A) → (Tree → Walk A) → (nodes list names code constants marks code′ constants′ marks′ : List ℕ) → State → AnswerAndState → Type 0
 Lowers gives w nodes list names code constants marks code′ constants′ marks′ state r =
     settled (w (treeOf nodes list names) (made (words code) (words constants) (words marks) state))
     ≡ seen (treeOf nodes list names) (gives (treeOf nodes list names)) (made (words code′) (words constants′) (words marks′) (r .state)) (r .answer)

@@ -25,10 +25,10 @@ ghost use Rattle.lowering.specs.Operators.{comparison};
 ghost use Rattle.lowering.specs.Literals.{literal};
 ghost use Rattle.lowering.specs.Steps.{freeTemp, loadConstant};
 ghost use Rattle.lowering.specs.Lower.{binarySources, fusedSources, nameOf, lowerEntry, jumpNode, lowerExpression, lowerMaterializing};
-ghost use Rattle.steps.specs.Answers.{registerAt, any, literalWord, operandAt, sourceAt, placeAt, settled, seen, counted, isInner, valueOf, wordEnd, DestOrRefusal, WordOrRefusal};
-ghost use Rattle.codegen.specs.Ready.{InArena, wordOf};
+ghost use Rattle.steps.specs.Answers.{registerAt, any, literalWord, operandAt, sourceAt, placeAt, settled, seen, stateOf, isInner, valueOf, wordEnd, DestOrRefusal, WordOrRefusal};
+ghost use Rattle.codegen.specs.Ready.{InArena, nodeWordOf};
 ghost use Rattle.codegen.specs.Kinds.{nameKind, binaryKind, keyOperand, setOpcode};
-ghost use Rattle.codegen.specs.Flat.{Falling, Seen, Given, areLeaves, isFlat, foundAt, LocalOr, askOperand, askRegister, askInto, needing, flatNode, Untouched};
+ghost use Rattle.codegen.specs.Flat.{Falling, FlatReady, Given, areLeaves, isFlat, foundAt, LocalOr, askOperand, askRegister, askInto, needing, flatNode, NothingDone};
 use crate::read::find;
 use crate::read::literal;
 use crate::read::literal_of;
@@ -41,9 +41,9 @@ use runtime::function::emit_instruction;
 use runtime::function::store_constant;
 use runtime::opcode;
 use runtime::operand::Operand;
-use steps::answer::Emitted;
+use steps::answer::AnswerAndCounts;
+use steps::answer::AnswerAndState;
 use steps::answer::LITERAL;
-use steps::answer::Lowered;
 use steps::answer::NONE;
 use steps::answer::inner;
 use steps::answer::number_at;
@@ -87,9 +87,9 @@ fn tail_of(nodes: &[u8], node: u32) -> u32
 // A leaf with no destination: LITERAL, or the register of a name, or NONE.
 fn leaf_operand(nodes: &[u8], names: &[u8], node: u32) -> u32
     requires { ⌜ (length (words (now names)) ≤ 256) × InArena (now nodes) node ⌝ }
-    ensures name { λ r. ⌜ (wordOf (now (nodes .entry)) node 0 ≡ nameKind →
-        (foundAt r ≡ lookup (words (now (names .entry))) (length (words (now (names .entry)))) (wordOf (now (nodes .entry)) node 1)) × LocalOr r) ⌝ }
-    ensures literal { λ r. ⌜ (wordOf (now (nodes .entry)) node 0 ≢ nameKind → r ≡ literalWord) ⌝ }
+    ensures name { λ r. ⌜ (nodeWordOf (now (nodes .entry)) node 0 ≡ nameKind →
+        (foundAt r ≡ lookup (words (now (names .entry))) (length (words (now (names .entry)))) (nodeWordOf (now (nodes .entry)) node 1)) × LocalOr r) ⌝ }
+    ensures literal { λ r. ⌜ (nodeWordOf (now (nodes .entry)) node 0 ≢ nameKind → r ≡ literalWord) ⌝ }
 {
     if node_word(nodes, node, 0) == kind::IDENTIFIER {
         return find(names, node_word(nodes, node, 1));
@@ -98,10 +98,10 @@ fn leaf_operand(nodes: &[u8], names: &[u8], node: u32) -> u32
 }
 
 // Nothing was done.
-fn left_alone(instructions: u32, pooled: u32, answer: u64) -> Emitted
+fn left_alone(instructions: u32, pooled: u32, answer: u64) -> AnswerAndCounts
     ensures { λ r. ⌜ r ≡ record { instructions = instructions; constants = pooled; answer = answer } ⌝ }
 {
-    Emitted {
+    AnswerAndCounts {
         instructions,
         constants: pooled,
         answer,
@@ -117,12 +117,12 @@ fn literal_into(
     pooled: u32,
     node: u32,
     d: u32,
-) -> Emitted
+) -> AnswerAndCounts
     requires { ⌜ InArena (now nodes) node ⌝ }
     ensures step { λ r. ⌜ ((t : Tree) (rs : RegisterSet) (n : ℕ) (m : List ℕ) →
         settled (needing d (loadConstant (literal (nodeAt (words (now (nodes .entry))) node)) (Dest.To (registerAt d)))
-        (made (words (now (code .entry))) (words (now (constants .entry))) m (counted rs instructions pooled n)))
-        ≡ seen t registerAt (made (words (now (code .exit))) (words (now (constants .exit))) m (counted rs (r .instructions) (r .constants) n)) (r .answer)) ⌝ }
+        (made (words (now (code .entry))) (words (now (constants .entry))) m (stateOf rs instructions pooled n)))
+        ≡ seen t registerAt (made (words (now (code .exit))) (words (now (constants .exit))) m (stateOf rs (r .instructions) (r .constants) n)) (r .answer)) ⌝ }
     ensures word { λ r. ⌜ DestOrRefusal d (r .answer) ⌝ }
 {
     if d == NONE {
@@ -150,12 +150,12 @@ fn name_into(
     node: u32,
     asked: u32,
     d: u32,
-) -> Emitted
-    requires { ⌜ (length (words (now names)) ≤ 256) × (InArena (now nodes) node × ((wordOf (now nodes) node 0 ≡ nameKind) × (asked ≡ askInto → d < any))) ⌝ }
+) -> AnswerAndCounts
+    requires { ⌜ (length (words (now names)) ≤ 256) × (InArena (now nodes) node × ((nodeWordOf (now nodes) node 0 ≡ nameKind) × (asked ≡ askInto → d < any))) ⌝ }
     ensures step { λ r. ⌜ ((list p : List ℕ) (rs : RegisterSet) (n : ℕ) (m : List ℕ) →
         settled (flatNode (treeOf (now (nodes .entry)) list (now (names .entry))) asked d node
-        (made (words (now (code .entry))) p m (counted rs instructions pooled n)))
-        ≡ seen (treeOf (now (nodes .entry)) list (now (names .entry))) (operandAt (nodeAt (words (now (nodes .entry))) node)) (made (words (now (code .exit))) p m (counted rs (r .instructions) (r .constants) n)) (r .answer)) ⌝ }
+        (made (words (now (code .entry))) p m (stateOf rs instructions pooled n)))
+        ≡ seen (treeOf (now (nodes .entry)) list (now (names .entry))) (operandAt (nodeAt (words (now (nodes .entry))) node)) (made (words (now (code .exit))) p m (stateOf rs (r .instructions) (r .constants) n)) (r .answer)) ⌝ }
     ensures word { λ r. ⌜ WordOrRefusal (r .answer) ⌝ }
 {
     let register = find(names, node_word(nodes, node, 1));
@@ -201,14 +201,14 @@ fn binary_into(
     pooled: u32,
     node: u32,
     d: u32,
-) -> Emitted
-    requires { ⌜ Seen (now nodes) (now names) node × ((wordOf (now nodes) node 0 ≡ binaryKind) × Given d) ⌝ }
-    ensures step { λ r. ⌜ ((list : List ℕ) (rs : RegisterSet) (n : ℕ) (m : List ℕ) → Checked (treeOf (now (nodes .entry)) list (now (names .entry))) → areLeaves (now (nodes .entry)) (wordOf (now (nodes .entry)) node 2) (wordOf (now (nodes .entry)) node 3) ≡ true →
-        settled (needing d (lowerExpression freeTemp (treeOf (now (nodes .entry)) list (now (names .entry))) node (Dest.To (registerAt d))) (made (words (now (code .entry))) (words (now (constants .entry))) m (counted rs instructions pooled n)))
-        ≡ seen (treeOf (now (nodes .entry)) list (now (names .entry))) (operandAt (nodeAt (words (now (nodes .entry))) node)) (made (words (now (code .exit))) (words (now (constants .exit))) m (counted rs (r .instructions) (r .constants) n)) (r .answer)) ⌝ }
-    ensures inner { λ r. ⌜ (areLeaves (now (nodes .entry)) (wordOf (now (nodes .entry)) node 2) (wordOf (now (nodes .entry)) node 3) ≡ false →
+) -> AnswerAndCounts
+    requires { ⌜ FlatReady (now nodes) (now names) node × ((nodeWordOf (now nodes) node 0 ≡ binaryKind) × Given d) ⌝ }
+    ensures step { λ r. ⌜ ((list : List ℕ) (rs : RegisterSet) (n : ℕ) (m : List ℕ) → Checked (treeOf (now (nodes .entry)) list (now (names .entry))) → areLeaves (now (nodes .entry)) (nodeWordOf (now (nodes .entry)) node 2) (nodeWordOf (now (nodes .entry)) node 3) ≡ true →
+        settled (needing d (lowerExpression freeTemp (treeOf (now (nodes .entry)) list (now (names .entry))) node (Dest.To (registerAt d))) (made (words (now (code .entry))) (words (now (constants .entry))) m (stateOf rs instructions pooled n)))
+        ≡ seen (treeOf (now (nodes .entry)) list (now (names .entry))) (operandAt (nodeAt (words (now (nodes .entry))) node)) (made (words (now (code .exit))) (words (now (constants .exit))) m (stateOf rs (r .instructions) (r .constants) n)) (r .answer)) ⌝ }
+    ensures inner { λ r. ⌜ (areLeaves (now (nodes .entry)) (nodeWordOf (now (nodes .entry)) node 2) (nodeWordOf (now (nodes .entry)) node 3) ≡ false →
         (r ≡ record { instructions = instructions; constants = pooled; answer = wordEnd + node }) × ((words (now (code .exit)) ≡ words (now (code .entry))) × (words (now (constants .exit)) ≡ words (now (constants .entry))))) ⌝ }
-    ensures word { λ r. ⌜ (areLeaves (now (nodes .entry)) (wordOf (now (nodes .entry)) node 2) (wordOf (now (nodes .entry)) node 3) ≡ true → DestOrRefusal d (r .answer)) ⌝ }
+    ensures word { λ r. ⌜ (areLeaves (now (nodes .entry)) (nodeWordOf (now (nodes .entry)) node 2) (nodeWordOf (now (nodes .entry)) node 3) ≡ true → DestOrRefusal d (r .answer)) ⌝ }
 {
     let left = node_word(nodes, node, 2);
     let right = node_word(nodes, node, 3);
@@ -252,11 +252,11 @@ fn lower_flat(
     node: u32,
     asked: u32,
     d: u32,
-) -> Emitted
-    requires { ⌜ Seen (now nodes) (now names) node × (Given d × (asked ≡ askInto → d < any)) ⌝ }
+) -> AnswerAndCounts
+    requires { ⌜ FlatReady (now nodes) (now names) node × (Given d × (asked ≡ askInto → d < any)) ⌝ }
     ensures step { λ r. ⌜ ((list : List ℕ) (rs : RegisterSet) (n : ℕ) (m : List ℕ) → Checked (treeOf (now (nodes .entry)) list (now (names .entry))) → isFlat (now (nodes .entry)) node ≡ true →
-        settled (flatNode (treeOf (now (nodes .entry)) list (now (names .entry))) asked d node (made (words (now (code .entry))) (words (now (constants .entry))) m (counted rs instructions pooled n)))
-        ≡ seen (treeOf (now (nodes .entry)) list (now (names .entry))) (operandAt (nodeAt (words (now (nodes .entry))) node)) (made (words (now (code .exit))) (words (now (constants .exit))) m (counted rs (r .instructions) (r .constants) n)) (r .answer)) ⌝ }
+        settled (flatNode (treeOf (now (nodes .entry)) list (now (names .entry))) asked d node (made (words (now (code .entry))) (words (now (constants .entry))) m (stateOf rs instructions pooled n)))
+        ≡ seen (treeOf (now (nodes .entry)) list (now (names .entry))) (operandAt (nodeAt (words (now (nodes .entry))) node)) (made (words (now (code .exit))) (words (now (constants .exit))) m (stateOf rs (r .instructions) (r .constants) n)) (r .answer)) ⌝ }
     ensures inner { λ r. ⌜ (isFlat (now (nodes .entry)) node ≡ false →
         (r ≡ record { instructions = instructions; constants = pooled; answer = wordEnd + node }) × ((words (now (code .exit)) ≡ words (now (code .entry))) × (words (now (constants .exit)) ≡ words (now (constants .entry))))) ⌝ }
     ensures word { λ r. ⌜ (isFlat (now (nodes .entry)) node ≡ true → WordOrRefusal (r .answer)) ⌝ }
@@ -280,7 +280,7 @@ fn lower_flat(
 // Whether a node may be flat: a quick no for most.
 fn is_simple(nodes: &[u8], node: u32) -> bool
     requires { ⌜ InArena (now nodes) node ⌝ }
-    ensures { λ r. ⌜ r ≡ leb (wordOf (now (nodes .entry)) node 0) binaryKind ⌝ }
+    ensures { λ r. ⌜ r ≡ leb (nodeWordOf (now (nodes .entry)) node 0) binaryKind ⌝ }
 {
     node_word(nodes, node, 0) <= kind::BINARY
 }
@@ -295,15 +295,15 @@ pub(crate) fn peek(
     state: State,
     node: u32,
     asked: u32,
-) -> Lowered
-    requires { ⌜ Seen (now nodes) (now names) node × (asked ≤ askRegister) ⌝ }
+) -> AnswerAndState
+    requires { ⌜ FlatReady (now nodes) (now names) node × (asked ≤ askRegister) ⌝ }
     ensures operand { λ r. ⌜ ((list m : List ℕ) → Checked (treeOf (now (nodes .entry)) list (now (names .entry))) → isInner (r .answer) ≡ false → asked ≡ askOperand →
         settled (lowerExpression freeTemp (treeOf (now (nodes .entry)) list (now (names .entry))) node Dest.Any (made (words (now (code .entry))) (words (now (constants .entry))) m state))
         ≡ seen (treeOf (now (nodes .entry)) list (now (names .entry))) (operandAt (nodeAt (words (now (nodes .entry))) node)) (made (words (now (code .exit))) (words (now (constants .exit))) m (r .state)) (r .answer)) ⌝ }
     ensures register { λ r. ⌜ ((list m : List ℕ) → Checked (treeOf (now (nodes .entry)) list (now (names .entry))) → isInner (r .answer) ≡ false → asked ≡ askRegister →
         settled (lowerMaterializing (lowerExpression freeTemp (treeOf (now (nodes .entry)) list (now (names .entry))) node) Dest.Any (made (words (now (code .entry))) (words (now (constants .entry))) m state))
         ≡ seen (treeOf (now (nodes .entry)) list (now (names .entry))) registerAt (made (words (now (code .exit))) (words (now (constants .exit))) m (r .state)) (r .answer)) ⌝ }
-    ensures inner { λ r. ⌜ (isInner (r .answer) ≡ true → Untouched (now (code .entry)) (now (code .exit)) (now (constants .entry)) (now (constants .exit)) state r × ((valueOf (r .answer) ≡ node) × (binaryKind ≤ wordOf (now (nodes .entry)) node 0))) ⌝ }
+    ensures inner { λ r. ⌜ (isInner (r .answer) ≡ true → NothingDone (now (code .entry)) (now (code .exit)) (now (constants .entry)) (now (constants .exit)) state r × ((valueOf (r .answer) ≡ node) × (binaryKind ≤ nodeWordOf (now (nodes .entry)) node 0))) ⌝ }
 {
     let mut s = state;
     let mut answer = inner(node);
@@ -331,7 +331,7 @@ pub(crate) fn peek(
         s.constants = f.constants;
         answer = f.answer;
     }
-    Lowered { state: s, answer }
+    AnswerAndState { state: s, answer }
 }
 
 // A flat child in d; a block is its tail. Any other child is left to the walk, by the node that it comes to.
@@ -343,12 +343,12 @@ pub(crate) fn peek_into(
     state: State,
     node: u32,
     d: u32,
-) -> Lowered
-    requires { ⌜ Seen (now nodes) (now names) node × (d < any) ⌝ }
+) -> AnswerAndState
+    requires { ⌜ FlatReady (now nodes) (now names) node × (d < any) ⌝ }
     ensures done { λ r. ⌜ ((list m : List ℕ) → Checked (treeOf (now (nodes .entry)) list (now (names .entry))) → isInner (r .answer) ≡ false →
         settled (lowerMaterializing (lowerExpression freeTemp (treeOf (now (nodes .entry)) list (now (names .entry))) node) (Dest.To (registerAt d)) (made (words (now (code .entry))) (words (now (constants .entry))) m state))
         ≡ seen (treeOf (now (nodes .entry)) list (now (names .entry))) registerAt (made (words (now (code .exit))) (words (now (constants .exit))) m (r .state)) (r .answer)) ⌝ }
-    ensures inner { λ r. ⌜ (isInner (r .answer) ≡ true → Untouched (now (code .entry)) (now (code .exit)) (now (constants .entry)) (now (constants .exit)) state r × ((valueOf (r .answer) ≤ node) × (binaryKind ≤ wordOf (now (nodes .entry)) (valueOf (r .answer)) 0))) ⌝ }
+    ensures inner { λ r. ⌜ (isInner (r .answer) ≡ true → NothingDone (now (code .entry)) (now (code .exit)) (now (constants .entry)) (now (constants .exit)) state r × ((valueOf (r .answer) ≤ node) × (binaryKind ≤ nodeWordOf (now (nodes .entry)) (valueOf (r .answer)) 0))) ⌝ }
     ensures same { λ r. ⌜ ((list : List ℕ) (e : Register) (m : Made) → Checked (treeOf (now (nodes .entry)) list (now (names .entry))) → isInner (r .answer) ≡ true →
         lowerMaterializing (lowerExpression freeTemp (treeOf (now (nodes .entry)) list (now (names .entry))) node) (Dest.To e) m
         ≡ lowerMaterializing (lowerExpression freeTemp (treeOf (now (nodes .entry)) list (now (names .entry))) (valueOf (r .answer))) (Dest.To e) m) ⌝ }
@@ -372,7 +372,7 @@ pub(crate) fn peek_into(
         s.constants = f.constants;
         answer = f.answer;
     }
-    Lowered { state: s, answer }
+    AnswerAndState { state: s, answer }
 }
 
 // A name as a condition: the test of its own register. The jump's place is the answer.
@@ -384,12 +384,12 @@ fn name_tested(
     pooled: u32,
     node: u32,
     sense: bool,
-) -> Emitted
-    requires { ⌜ (length (words (now names)) ≤ 256) × (InArena (now nodes) node × (wordOf (now nodes) node 0 ≡ nameKind)) ⌝ }
+) -> AnswerAndCounts
+    requires { ⌜ (length (words (now names)) ≤ 256) × (InArena (now nodes) node × (nodeWordOf (now nodes) node 0 ≡ nameKind)) ⌝ }
     ensures step { λ r. ⌜ ((list p : List ℕ) (rs : RegisterSet) (n : ℕ) (m : List ℕ) →
         settled (jumpNode (treeOf (now (nodes .entry)) list (now (names .entry))) (lowerExpression freeTemp (treeOf (now (nodes .entry)) list (now (names .entry)))) sense (lowerExpression freeTemp (treeOf (now (nodes .entry)) list (now (names .entry))) node) (nodeAt (words (now (nodes .entry))) node)
-        (made (words (now (code .entry))) p m (counted rs instructions pooled n)))
-        ≡ seen (treeOf (now (nodes .entry)) list (now (names .entry))) placeAt (made (words (now (code .exit))) p m (counted rs (r .instructions) (r .constants) n)) (r .answer)) ⌝ }
+        (made (words (now (code .entry))) p m (stateOf rs instructions pooled n)))
+        ≡ seen (treeOf (now (nodes .entry)) list (now (names .entry))) placeAt (made (words (now (code .exit))) p m (stateOf rs (r .instructions) (r .constants) n)) (r .answer)) ⌝ }
     ensures word { λ r. ⌜ WordOrRefusal (r .answer) ⌝ }
 {
     let register = find(names, node_word(nodes, node, 1));
@@ -413,11 +413,11 @@ fn compared_leaves(
     pooled: u32,
     node: u32,
     sense: bool,
-) -> Emitted
-    requires { ⌜ Seen (now nodes) (now names) node × (wordOf (now nodes) node 0 ≡ binaryKind) ⌝ }
+) -> AnswerAndCounts
+    requires { ⌜ FlatReady (now nodes) (now names) node × (nodeWordOf (now nodes) node 0 ≡ binaryKind) ⌝ }
     ensures step { λ r. ⌜ ((list : List ℕ) (rs : RegisterSet) (n : ℕ) (m : List ℕ) → Checked (treeOf (now (nodes .entry)) list (now (names .entry))) → isInner (r .answer) ≡ false →
-        settled (jumpNode (treeOf (now (nodes .entry)) list (now (names .entry))) (lowerExpression freeTemp (treeOf (now (nodes .entry)) list (now (names .entry)))) sense (lowerExpression freeTemp (treeOf (now (nodes .entry)) list (now (names .entry))) node) (nodeAt (words (now (nodes .entry))) node) (made (words (now (code .entry))) (words (now (constants .entry))) m (counted rs instructions pooled n)))
-        ≡ seen (treeOf (now (nodes .entry)) list (now (names .entry))) placeAt (made (words (now (code .exit))) (words (now (constants .exit))) m (counted rs (r .instructions) (r .constants) n)) (r .answer)) ⌝ }
+        settled (jumpNode (treeOf (now (nodes .entry)) list (now (names .entry))) (lowerExpression freeTemp (treeOf (now (nodes .entry)) list (now (names .entry)))) sense (lowerExpression freeTemp (treeOf (now (nodes .entry)) list (now (names .entry))) node) (nodeAt (words (now (nodes .entry))) node) (made (words (now (code .entry))) (words (now (constants .entry))) m (stateOf rs instructions pooled n)))
+        ≡ seen (treeOf (now (nodes .entry)) list (now (names .entry))) placeAt (made (words (now (code .exit))) (words (now (constants .exit))) m (stateOf rs (r .instructions) (r .constants) n)) (r .answer)) ⌝ }
     ensures inner { λ r. ⌜ (isInner (r .answer) ≡ true →
         (r ≡ record { instructions = instructions; constants = pooled; answer = wordEnd + node }) × ((words (now (code .exit)) ≡ words (now (code .entry))) × (words (now (constants .exit)) ≡ words (now (constants .entry))))) ⌝ }
 {
@@ -462,11 +462,11 @@ fn flat_jump(
     pooled: u32,
     node: u32,
     sense: bool,
-) -> Emitted
-    requires { ⌜ Seen (now nodes) (now names) node ⌝ }
+) -> AnswerAndCounts
+    requires { ⌜ FlatReady (now nodes) (now names) node ⌝ }
     ensures step { λ r. ⌜ ((list : List ℕ) (rs : RegisterSet) (n : ℕ) (m : List ℕ) → Checked (treeOf (now (nodes .entry)) list (now (names .entry))) → isInner (r .answer) ≡ false →
-        settled (jumpNode (treeOf (now (nodes .entry)) list (now (names .entry))) (lowerExpression freeTemp (treeOf (now (nodes .entry)) list (now (names .entry)))) sense (lowerExpression freeTemp (treeOf (now (nodes .entry)) list (now (names .entry))) node) (nodeAt (words (now (nodes .entry))) node) (made (words (now (code .entry))) (words (now (constants .entry))) m (counted rs instructions pooled n)))
-        ≡ seen (treeOf (now (nodes .entry)) list (now (names .entry))) placeAt (made (words (now (code .exit))) (words (now (constants .exit))) m (counted rs (r .instructions) (r .constants) n)) (r .answer)) ⌝ }
+        settled (jumpNode (treeOf (now (nodes .entry)) list (now (names .entry))) (lowerExpression freeTemp (treeOf (now (nodes .entry)) list (now (names .entry)))) sense (lowerExpression freeTemp (treeOf (now (nodes .entry)) list (now (names .entry))) node) (nodeAt (words (now (nodes .entry))) node) (made (words (now (code .entry))) (words (now (constants .entry))) m (stateOf rs instructions pooled n)))
+        ≡ seen (treeOf (now (nodes .entry)) list (now (names .entry))) placeAt (made (words (now (code .exit))) (words (now (constants .exit))) m (stateOf rs (r .instructions) (r .constants) n)) (r .answer)) ⌝ }
     ensures inner { λ r. ⌜ (isInner (r .answer) ≡ true →
         (r ≡ record { instructions = instructions; constants = pooled; answer = wordEnd + node }) × ((words (now (code .exit)) ≡ words (now (code .entry))) × (words (now (constants .exit)) ≡ words (now (constants .entry))))) ⌝ }
 {
@@ -498,12 +498,12 @@ pub(crate) fn peek_jump(
     state: State,
     node: u32,
     sense: bool,
-) -> Lowered
-    requires { ⌜ Seen (now nodes) (now names) node ⌝ }
+) -> AnswerAndState
+    requires { ⌜ FlatReady (now nodes) (now names) node ⌝ }
     ensures step { λ r. ⌜ ((list m : List ℕ) → Checked (treeOf (now (nodes .entry)) list (now (names .entry))) → isInner (r .answer) ≡ false →
         settled (jumpNode (treeOf (now (nodes .entry)) list (now (names .entry))) (lowerExpression freeTemp (treeOf (now (nodes .entry)) list (now (names .entry)))) sense (lowerExpression freeTemp (treeOf (now (nodes .entry)) list (now (names .entry))) node) (nodeAt (words (now (nodes .entry))) node) (made (words (now (code .entry))) (words (now (constants .entry))) m state))
         ≡ seen (treeOf (now (nodes .entry)) list (now (names .entry))) placeAt (made (words (now (code .exit))) (words (now (constants .exit))) m (r .state)) (r .answer)) ⌝ }
-    ensures inner { λ r. ⌜ (isInner (r .answer) ≡ true → Untouched (now (code .entry)) (now (code .exit)) (now (constants .entry)) (now (constants .exit)) state r) ⌝ }
+    ensures inner { λ r. ⌜ (isInner (r .answer) ≡ true → NothingDone (now (code .entry)) (now (code .exit)) (now (constants .entry)) (now (constants .exit)) state r) ⌝ }
 {
     let mut s = state;
     let f = flat_jump(
@@ -518,7 +518,7 @@ pub(crate) fn peek_jump(
     );
     s.instructions = f.instructions;
     s.constants = f.constants;
-    Lowered {
+    AnswerAndState {
         state: s,
         answer: f.answer,
     }
@@ -558,7 +558,7 @@ pub(crate) fn set_opcode(src1: u32, src2: u32) -> u32
 }
 
 // An entry of leaves, or a key alone, on two counts: "Literals left over are pooled last, key before value." Any other entry is left to the walk, and nothing
-// is done.
+// is done. What pools the fields and emits stands here and in `set_property`: inlined here, maps take a tenth to a sixth less time.
 pub(crate) fn flat_entry(
     nodes: &[u8],
     names: &[u8],
@@ -569,11 +569,11 @@ pub(crate) fn flat_entry(
     d: u32,
     key: u32,
     value: u32,
-) -> Emitted
+) -> AnswerAndCounts
     requires { ⌜ (length (words (now names)) ≤ 256) × (InArena (now nodes) key × (value ≢ absent → InArena (now nodes) value)) ⌝ }
     ensures step { λ r. ⌜ ((list : List ℕ) (rs : RegisterSet) (n : ℕ) (m : List ℕ) → isInner (r .answer) ≡ false →
-        settled (lowerEntry (treeOf (now (nodes .entry)) list (now (names .entry))) (lowerExpression freeTemp (treeOf (now (nodes .entry)) list (now (names .entry)))) (registerAt d) key value (nameOf (nodeAt (words (now (nodes .entry))) key)) (made (words (now (code .entry))) (words (now (constants .entry))) m (counted rs instructions pooled n)))
-        ≡ seen (treeOf (now (nodes .entry)) list (now (names .entry))) placeAt (made (words (now (code .exit))) (words (now (constants .exit))) m (counted rs (r .instructions) (r .constants) n)) (r .answer)) ⌝ }
+        settled (lowerEntry (treeOf (now (nodes .entry)) list (now (names .entry))) (lowerExpression freeTemp (treeOf (now (nodes .entry)) list (now (names .entry)))) (registerAt d) key value (nameOf (nodeAt (words (now (nodes .entry))) key)) (made (words (now (code .entry))) (words (now (constants .entry))) m (stateOf rs instructions pooled n)))
+        ≡ seen (treeOf (now (nodes .entry)) list (now (names .entry))) placeAt (made (words (now (code .exit))) (words (now (constants .exit))) m (stateOf rs (r .instructions) (r .constants) n)) (r .answer)) ⌝ }
     ensures inner { λ r. ⌜ (isInner (r .answer) ≡ true →
         (r ≡ record { instructions = instructions; constants = pooled; answer = wordEnd + key }) × ((words (now (code .exit)) ≡ words (now (code .entry))) × ((words (now (constants .exit)) ≡ words (now (constants .entry))) × (value ≢ absent)))) ⌝ }
 {
@@ -617,11 +617,11 @@ pub(crate) fn binary_operation(
     d: u32,
     src1: u32,
     src2: u32,
-) -> Lowered
-    requires { ⌜ Falling (now nodes) × (InArena (now nodes) node × (wordOf (now nodes) node 0 ≡ binaryKind)) ⌝ }
+) -> AnswerAndState
+    requires { ⌜ Falling (now nodes) × (InArena (now nodes) node × (nodeWordOf (now nodes) node 0 ≡ binaryKind)) ⌝ }
     ensures step { λ r. ⌜ ((list names : List ℕ) (E : ℕ → Dest → Walk Operand) (m : List ℕ) → eqb src1 literalWord && eqb src2 literalWord ≡ false →
-        settled (binarySources (λ x. ret tt) (treeOf (now (nodes .entry)) list names) E (binaryOp (wordOf (now (nodes .entry)) node 1)) (wordOf (now (nodes .entry)) node 2) (wordOf (now (nodes .entry)) node 3) (registerAt d)
-        (sourceAt (literal (nodeAt (words (now (nodes .entry))) (wordOf (now (nodes .entry)) node 2))) src1) (sourceAt (literal (nodeAt (words (now (nodes .entry))) (wordOf (now (nodes .entry)) node 3))) src2) (made (words (now (code .entry))) (words (now (constants .entry))) m state))
+        settled (binarySources (λ x. ret tt) (treeOf (now (nodes .entry)) list names) E (binaryOp (nodeWordOf (now (nodes .entry)) node 1)) (nodeWordOf (now (nodes .entry)) node 2) (nodeWordOf (now (nodes .entry)) node 3) (registerAt d)
+        (sourceAt (literal (nodeAt (words (now (nodes .entry))) (nodeWordOf (now (nodes .entry)) node 2))) src1) (sourceAt (literal (nodeAt (words (now (nodes .entry))) (nodeWordOf (now (nodes .entry)) node 3))) src2) (made (words (now (code .entry))) (words (now (constants .entry))) m state))
         ≡ seen (treeOf (now (nodes .entry)) list names) (λ w. Operand.Register (registerAt w)) (made (words (now (code .exit))) (words (now (constants .exit))) m (r .state)) (r .answer)) ⌝ }
 {
     let mut s = state;
@@ -642,7 +642,7 @@ pub(crate) fn binary_operation(
     );
     s.instructions = f.instructions;
     s.constants = f.constants;
-    Lowered {
+    AnswerAndState {
         state: s,
         answer: f.answer,
     }
@@ -658,12 +658,12 @@ pub(crate) fn fused_jump(
     sense: bool,
     src1: u32,
     src2: u32,
-) -> Lowered
-    requires { ⌜ Falling (now nodes) × (InArena (now nodes) node × (wordOf (now nodes) node 0 ≡ binaryKind)) ⌝ }
+) -> AnswerAndState
+    requires { ⌜ Falling (now nodes) × (InArena (now nodes) node × (nodeWordOf (now nodes) node 0 ≡ binaryKind)) ⌝ }
     ensures step { λ r. ⌜ ((list names : List ℕ) (E : ℕ → Dest → Walk Operand) (own : Dest → Walk Operand) (c : Comparison) (m : List ℕ) →
-        eqb src1 literalWord && eqb src2 literalWord ≡ false → comparison (binaryOp (wordOf (now (nodes .entry)) node 1)) ≡ some c →
+        eqb src1 literalWord && eqb src2 literalWord ≡ false → comparison (binaryOp (nodeWordOf (now (nodes .entry)) node 1)) ≡ some c →
         settled (fusedSources (treeOf (now (nodes .entry)) list names) E sense own c
-        (sourceAt (literal (nodeAt (words (now (nodes .entry))) (wordOf (now (nodes .entry)) node 2))) src1) (sourceAt (literal (nodeAt (words (now (nodes .entry))) (wordOf (now (nodes .entry)) node 3))) src2) (made (words (now (code .entry))) (words (now (constants .entry))) m state))
+        (sourceAt (literal (nodeAt (words (now (nodes .entry))) (nodeWordOf (now (nodes .entry)) node 2))) src1) (sourceAt (literal (nodeAt (words (now (nodes .entry))) (nodeWordOf (now (nodes .entry)) node 3))) src2) (made (words (now (code .entry))) (words (now (constants .entry))) m state))
         ≡ seen (treeOf (now (nodes .entry)) list names) placeAt (made (words (now (code .exit))) (words (now (constants .exit))) m (r .state)) (r .answer)) ⌝ }
 {
     let mut s = state;
@@ -684,7 +684,7 @@ pub(crate) fn fused_jump(
     );
     s.instructions = f.instructions;
     s.constants = f.constants;
-    Lowered {
+    AnswerAndState {
         state: s,
         answer: f.answer,
     }

@@ -22,18 +22,18 @@ use crate::lower_expression::lower_jump_if;
 use crate::lower_expression::lower_materializing;
 use diagnostics::Refusal;
 use environment::RegisterSet;
-use lower_ast::Patched;
-use lower_ast::patch_arguments;
 use lowering::State;
-use questions::check::Checked;
-use questions::check::check;
+use patch::Patched;
+use patch::patch_arguments;
+use questions::CheckAnswer;
+use questions::check;
 use result::Result;
 use result::refused_result;
 use result::result_of;
 use runtime::function::emit_instruction;
 use runtime::opcode;
 use steps::answer::ANY;
-use steps::answer::Lowered;
+use steps::answer::AnswerAndState;
 use steps::answer::answered;
 use steps::answer::is_refusal;
 use steps::answer::refused;
@@ -43,7 +43,7 @@ use words::FULL;
 use words::counted;
 
 // The arguments patched, and then the answer.
-fn patched(code: &mut [u8], marks: &[u8], state: State, place: u32) -> Lowered
+fn patch_and_answer(code: &mut [u8], marks: &[u8], state: State, place: u32) -> AnswerAndState
     ensures step { λ r. ⌜ ((t : Tree) (p : List ℕ) → settled (bind (patchArguments (made (words (now (code .entry))) p (words (now (marks .entry))) state)) (λ x. ret place))
         ≡ seen t placeAt (made (words (now (code .exit))) p (words (now (marks .entry))) (r .state)) (r .answer)) ⌝ }
     ensures tail { λ r. ⌜ tail (now (code .exit)) ≡ tail (now (code .entry)) ⌝ }
@@ -66,7 +66,7 @@ fn lower_value(
     marks: &mut [u8],
     state: State,
     root: u32,
-) -> Lowered
+) -> AnswerAndState
     requires { ⌜ Ready (now nodes) (now list) (now names) root ⌝ }
     ensures { λ r. ⌜ Lowers (λ t. placeAt) (λ t. lowerRoot freeTemp t 0 root) (now (nodes .entry)) (now (list .entry)) (now (names .entry))
         (now (code .entry)) (now (constants .entry)) (now (marks .entry)) (now (code .exit)) (now (constants .exit)) (now (marks .exit)) state r ⌝ }
@@ -83,7 +83,7 @@ fn lower_value(
         return refused(s, Refusal::Code, 0);
     }
     s.instructions = counted(s.instructions, n);
-    patched(code, marks, s, 0)
+    patch_and_answer(code, marks, s, 0)
 }
 
 // Modes 1 and 2: the root as a condition. The answer is the jump's place.
@@ -97,7 +97,7 @@ fn lower_condition(
     state: State,
     root: u32,
     sense: bool,
-) -> Lowered
+) -> AnswerAndState
     requires { ⌜ Ready (now nodes) (now list) (now names) root ⌝ }
     ensures { λ r. ⌜ Lowers (λ t. placeAt) (λ t. conditional t sense root) (now (nodes .entry)) (now (list .entry)) (now (names .entry))
         (now (code .entry)) (now (constants .entry)) (now (marks .entry)) (now (code .exit)) (now (constants .exit)) (now (marks .exit)) state r ⌝ }
@@ -117,7 +117,7 @@ fn lower_condition(
         return r;
     }
     let s = r.state;
-    patched(code, marks, s, value_of(r.answer))
+    patch_and_answer(code, marks, s, value_of(r.answer))
 }
 
 fn lower_root(
@@ -130,7 +130,7 @@ fn lower_root(
     state: State,
     mode: u32,
     root: u32,
-) -> Lowered
+) -> AnswerAndState
     requires { ⌜ Ready (now nodes) (now list) (now names) root ⌝ }
     ensures { λ r. ⌜ Lowers (λ t. placeAt) (λ t. lowerRoot freeTemp t mode root) (now (nodes .entry)) (now (list .entry)) (now (names .entry))
         (now (code .entry)) (now (constants .entry)) (now (marks .entry)) (now (code .exit)) (now (constants .exit)) (now (marks .exit)) state r ⌝ }
@@ -222,7 +222,16 @@ pub fn lower(
 {
     let checked = check(nodes, list, names, mode, root);
     match checked {
-        Checked::Refused { refusal, place } => refused_result(refusal, place),
-        Checked::Passed => lower_checked(nodes, root, mode, list, names, code, constants, marks),
+        CheckAnswer::Refused { refusal, place } => refused_result(refusal, place),
+        CheckAnswer::Passed => lower_checked(
+            nodes,
+            root,
+            mode,
+            list,
+            names,
+            code,
+            constants,
+            marks,
+        ),
     }
 }

@@ -18,11 +18,11 @@ ghost use Rattle.lowering.specs.Tree.{Tree, treeOf};
 ghost use Rattle.lowering.specs.Walk.{Walk, made};
 ghost use Rattle.lowering.specs.Steps.{freeTemp};
 ghost use Rattle.lowering.specs.Literals.{literal};
-ghost use Rattle.lowering.specs.Lower.{nameOf, storeKeyed, lowerArguments, lowerEntry, tested, jumpNode, lowerExpression, lowerJumpIfFalse};
+ghost use Rattle.lowering.specs.Lower.{nameOf, storeKeyed, lowerArguments, lowerEntry, test, jumpNode, lowerExpression, lowerJumpIfFalse};
 ghost use Rattle.steps.specs.Answers.{any, registerAt, destOf, operandAt, sourceAt, placeAt, unitAt, settled, seen, isInner, valueOf, DestOrRefusal};
-ghost use Rattle.codegen.specs.Ready.{InArena, wordOf, Ready, ReadyTo, EntryBelow, Lowers};
+ghost use Rattle.codegen.specs.Ready.{InArena, nodeWordOf, Ready, ReadyTo, EntryBelow, Lowers};
 ghost use Rattle.codegen.specs.Flat.{Falling};
-ghost use Rattle.codegen.specs.Kinds.{nameKind, binaryKind, unaryKind, notKind, andKind, orKind, ifKind, blockKind, callKind, propertyKind, mapKind, onlyOperand, keyOperand, twoLiterals, isCompared};
+ghost use Rattle.codegen.specs.Kinds.{nameKind, binaryKind, unaryKind, notKind, andKind, orKind, ifKind, blockKind, callKind, propertyKind, mapKind, onlyOperand, keyOperand, lowerLiterals, isCompared};
 use crate::flat::OPERAND;
 use crate::flat::REGISTER;
 use crate::flat::binary_operation;
@@ -37,20 +37,20 @@ use crate::read::find;
 use crate::read::literal;
 use crate::read::node_word;
 use diagnostics::Refusal;
-use lower_ast::mark_argument;
 use lowering::State;
 use operators::binary_rr;
 use operators::is_comparison;
 use operators::jump_if;
 use operators::swaps;
 use operators::unary;
+use patch::mark_argument;
 use runtime::function::emit_instruction;
 use runtime::function::store_constant;
 use runtime::opcode;
 use runtime::operand::Operand;
 use steps::answer::ANY;
+use steps::answer::AnswerAndState;
 use steps::answer::LITERAL;
-use steps::answer::Lowered;
 use steps::answer::NONE;
 use steps::answer::answered;
 use steps::answer::is_inner;
@@ -83,7 +83,7 @@ fn lower_expression(
     state: State,
     node: u32,
     dest: u32,
-) -> Lowered
+) -> AnswerAndState
     requires { ⌜ ReadyTo (now nodes) (now list) (now names) node dest ⌝ }
     ensures { λ r. ⌜ Lowers (λ t. operandAt (nodeAt (t .nodes) node)) (λ t. lowerExpression freeTemp t node (destOf dest)) (now (nodes .entry)) (now (list .entry)) (now (names .entry))
         (now (code .entry)) (now (constants .entry)) (now (marks .entry)) (now (code .exit)) (now (constants .exit)) (now (marks .exit)) state r ⌝ }
@@ -145,9 +145,9 @@ pub(crate) fn lower_materializing(
     constants: &mut [u8],
     marks: &mut [u8],
     state: State,
-    peeked: Lowered,
+    peeked: AnswerAndState,
     dest: u32,
-) -> Lowered
+) -> AnswerAndState
     requires { ⌜ (isInner (peeked .answer) ≡ true → ReadyTo (now nodes) (now list) (now names) (valueOf (peeked .answer)) dest) ⌝ }
     ensures walked { λ r. ⌜ (isInner (peeked .answer) ≡ true → Lowers (λ t. operandAt (nodeAt (t .nodes) (valueOf (peeked .answer)))) (λ t. lowerExpression freeTemp t (valueOf (peeked .answer)) (destOf dest)) (now (nodes .entry)) (now (list .entry)) (now (names .entry))
         (now (code .entry)) (now (constants .entry)) (now (marks .entry)) (now (code .exit)) (now (constants .exit)) (now (marks .exit)) state r) ⌝ }
@@ -170,8 +170,8 @@ fn lower_name(
     state: State,
     node: u32,
     dest: u32,
-) -> Lowered
-    requires { ⌜ (length (words (now names)) ≤ 256) × (InArena (now nodes) node × ((wordOf (now nodes) node 0 ≡ nameKind) × (dest ≤ any))) ⌝ }
+) -> AnswerAndState
+    requires { ⌜ (length (words (now names)) ≤ 256) × (InArena (now nodes) node × ((nodeWordOf (now nodes) node 0 ≡ nameKind) × (dest ≤ any))) ⌝ }
     ensures { λ r. ⌜ ((list p m : List ℕ) → settled (lowerExpression freeTemp (treeOf (now (nodes .entry)) list (now (names .entry))) node (destOf dest) (made (words (now (code .entry))) p m state))
         ≡ seen (treeOf (now (nodes .entry)) list (now (names .entry))) (operandAt (nodeAt (words (now (nodes .entry))) node)) (made (words (now (code .exit))) p m (r .state)) (r .answer)) ⌝ }
 {
@@ -209,8 +209,8 @@ fn lower_binary(
     state: State,
     node: u32,
     dest: u32,
-) -> Lowered
-    requires { ⌜ (ReadyTo (now nodes) (now list) (now names) node dest) × (wordOf (now nodes) node 0 ≡ binaryKind) ⌝ }
+) -> AnswerAndState
+    requires { ⌜ (ReadyTo (now nodes) (now list) (now names) node dest) × (nodeWordOf (now nodes) node 0 ≡ binaryKind) ⌝ }
     ensures { λ r. ⌜ Lowers (λ t. operandAt (nodeAt (t .nodes) node)) (λ t. lowerExpression freeTemp t node (destOf dest)) (now (nodes .entry)) (now (list .entry)) (now (names .entry))
         (now (code .entry)) (now (constants .entry)) (now (marks .entry)) (now (code .exit)) (now (constants .exit)) (now (marks .exit)) state r ⌝ }
 {
@@ -259,9 +259,9 @@ fn lower_literals(
     state: State,
     node: u32,
     d: u32,
-) -> Lowered
-    requires { ⌜ Falling (now nodes) × (InArena (now nodes) node × (wordOf (now nodes) node 0 ≡ binaryKind)) ⌝ }
-    ensures { λ r. ⌜ ((list names m : List ℕ) → settled (twoLiterals (treeOf (now (nodes .entry)) list names) (binaryOp (wordOf (now (nodes .entry)) node 1)) (wordOf (now (nodes .entry)) node 2) (wordOf (now (nodes .entry)) node 3) (registerAt d) (made (words (now (code .entry))) (words (now (constants .entry))) m state))
+) -> AnswerAndState
+    requires { ⌜ Falling (now nodes) × (InArena (now nodes) node × (nodeWordOf (now nodes) node 0 ≡ binaryKind)) ⌝ }
+    ensures { λ r. ⌜ ((list names m : List ℕ) → settled (lowerLiterals (treeOf (now (nodes .entry)) list names) (binaryOp (nodeWordOf (now (nodes .entry)) node 1)) (nodeWordOf (now (nodes .entry)) node 2) (nodeWordOf (now (nodes .entry)) node 3) (registerAt d) (made (words (now (code .entry))) (words (now (constants .entry))) m state))
         ≡ seen (treeOf (now (nodes .entry)) list names) (λ w. Operand.Register (registerAt w)) (made (words (now (code .exit))) (words (now (constants .exit))) m (r .state)) (r .answer)) ⌝ }
     ensures word { λ r. ⌜ DestOrRefusal d (r .answer) ⌝ }
 {
@@ -308,8 +308,8 @@ fn only_operand(nodes: &[u8], node: u32) -> u32
 
 fn only_opcode(nodes: &[u8], node: u32) -> u32
     requires { ⌜ InArena (now nodes) node ⌝ }
-    ensures unary { λ r. ⌜ (wordOf (now (nodes .entry)) node 0 ≡ unaryKind → (d a : ℕ) → wordsOf (unary (unaryOp (wordOf (now (nodes .entry)) node 1)) d a) ≡ r ∷ d ∷ a ∷ 0 ∷ []) ⌝ }
-    ensures not { λ r. ⌜ (wordOf (now (nodes .entry)) node 0 ≢ unaryKind → (d a : ℕ) → wordsOf (Instruction.Not d a) ≡ r ∷ d ∷ a ∷ 0 ∷ []) ⌝ }
+    ensures unary { λ r. ⌜ (nodeWordOf (now (nodes .entry)) node 0 ≡ unaryKind → (d a : ℕ) → wordsOf (unary (unaryOp (nodeWordOf (now (nodes .entry)) node 1)) d a) ≡ r ∷ d ∷ a ∷ 0 ∷ []) ⌝ }
+    ensures not { λ r. ⌜ (nodeWordOf (now (nodes .entry)) node 0 ≢ unaryKind → (d a : ℕ) → wordsOf (Instruction.Not d a) ≡ r ∷ d ∷ a ∷ 0 ∷ []) ⌝ }
 {
     if node_word(nodes, node, 0) == kind::UNARY {
         return unary(node_word(nodes, node, 1));
@@ -328,8 +328,8 @@ fn lower_unary(
     state: State,
     node: u32,
     dest: u32,
-) -> Lowered
-    requires { ⌜ (ReadyTo (now nodes) (now list) (now names) node dest) × ((wordOf (now nodes) node 0 ≡ unaryKind) ⊎ (wordOf (now nodes) node 0 ≡ notKind)) ⌝ }
+) -> AnswerAndState
+    requires { ⌜ (ReadyTo (now nodes) (now list) (now names) node dest) × ((nodeWordOf (now nodes) node 0 ≡ unaryKind) ⊎ (nodeWordOf (now nodes) node 0 ≡ notKind)) ⌝ }
     ensures { λ r. ⌜ Lowers (λ t. operandAt (nodeAt (t .nodes) node)) (λ t. lowerExpression freeTemp t node (destOf dest)) (now (nodes .entry)) (now (list .entry)) (now (names .entry))
         (now (code .entry)) (now (constants .entry)) (now (marks .entry)) (now (code .exit)) (now (constants .exit)) (now (marks .exit)) state r ⌝ }
 {
@@ -362,8 +362,8 @@ fn lower_unary(
 // The jump over the right side of and, or.
 fn logical_jump(nodes: &[u8], node: u32) -> u32
     requires { ⌜ InArena (now nodes) node ⌝ }
-    ensures and { λ r. ⌜ (wordOf (now (nodes .entry)) node 0 ≡ andKind → (a : ℕ) → wordsOf (Instruction.JumpIfFalse a 0) ≡ r ∷ a ∷ 0 ∷ 0 ∷ []) ⌝ }
-    ensures or { λ r. ⌜ (wordOf (now (nodes .entry)) node 0 ≢ andKind → (a : ℕ) → wordsOf (Instruction.JumpIfTrue a 0) ≡ r ∷ a ∷ 0 ∷ 0 ∷ []) ⌝ }
+    ensures and { λ r. ⌜ (nodeWordOf (now (nodes .entry)) node 0 ≡ andKind → (a : ℕ) → wordsOf (Instruction.JumpIfFalse a 0) ≡ r ∷ a ∷ 0 ∷ 0 ∷ []) ⌝ }
+    ensures or { λ r. ⌜ (nodeWordOf (now (nodes .entry)) node 0 ≢ andKind → (a : ℕ) → wordsOf (Instruction.JumpIfTrue a 0) ≡ r ∷ a ∷ 0 ∷ 0 ∷ []) ⌝ }
 {
     if node_word(nodes, node, 0) == kind::LOGICAL_AND {
         return opcode::JUMP_IF_FALSE;
@@ -382,8 +382,8 @@ fn logical(
     state: State,
     node: u32,
     dest: u32,
-) -> Lowered
-    requires { ⌜ (ReadyTo (now nodes) (now list) (now names) node dest) × ((wordOf (now nodes) node 0 ≡ andKind) ⊎ (wordOf (now nodes) node 0 ≡ orKind)) ⌝ }
+) -> AnswerAndState
+    requires { ⌜ (ReadyTo (now nodes) (now list) (now names) node dest) × ((nodeWordOf (now nodes) node 0 ≡ andKind) ⊎ (nodeWordOf (now nodes) node 0 ≡ orKind)) ⌝ }
     ensures { λ r. ⌜ Lowers (λ t. operandAt (nodeAt (t .nodes) node)) (λ t. lowerExpression freeTemp t node (destOf dest)) (now (nodes .entry)) (now (list .entry)) (now (names .entry))
         (now (code .entry)) (now (constants .entry)) (now (marks .entry)) (now (code .exit)) (now (constants .exit)) (now (marks .exit)) state r ⌝ }
 {
@@ -428,8 +428,8 @@ fn lower_if(
     state: State,
     node: u32,
     dest: u32,
-) -> Lowered
-    requires { ⌜ (ReadyTo (now nodes) (now list) (now names) node dest) × (wordOf (now nodes) node 0 ≡ ifKind) ⌝ }
+) -> AnswerAndState
+    requires { ⌜ (ReadyTo (now nodes) (now list) (now names) node dest) × (nodeWordOf (now nodes) node 0 ≡ ifKind) ⌝ }
     ensures { λ r. ⌜ Lowers (λ t. operandAt (nodeAt (t .nodes) node)) (λ t. lowerExpression freeTemp t node (destOf dest)) (now (nodes .entry)) (now (list .entry)) (now (names .entry))
         (now (code .entry)) (now (constants .entry)) (now (marks .entry)) (now (code .exit)) (now (constants .exit)) (now (marks .exit)) state r ⌝ }
 {
@@ -484,8 +484,8 @@ fn lower_block(
     state: State,
     node: u32,
     dest: u32,
-) -> Lowered
-    requires { ⌜ (ReadyTo (now nodes) (now list) (now names) node dest) × (wordOf (now nodes) node 0 ≡ blockKind) ⌝ }
+) -> AnswerAndState
+    requires { ⌜ (ReadyTo (now nodes) (now list) (now names) node dest) × (nodeWordOf (now nodes) node 0 ≡ blockKind) ⌝ }
     ensures { λ r. ⌜ Lowers (λ t. operandAt (nodeAt (t .nodes) node)) (λ t. lowerExpression freeTemp t node (destOf dest)) (now (nodes .entry)) (now (list .entry)) (now (names .entry))
         (now (code .entry)) (now (constants .entry)) (now (marks .entry)) (now (code .exit)) (now (constants .exit)) (now (marks .exit)) state r ⌝ }
 {
@@ -525,8 +525,8 @@ fn lower_call(
     state: State,
     node: u32,
     dest: u32,
-) -> Lowered
-    requires { ⌜ (ReadyTo (now nodes) (now list) (now names) node dest) × (wordOf (now nodes) node 0 ≡ callKind) ⌝ }
+) -> AnswerAndState
+    requires { ⌜ (ReadyTo (now nodes) (now list) (now names) node dest) × (nodeWordOf (now nodes) node 0 ≡ callKind) ⌝ }
     ensures { λ r. ⌜ Lowers (λ t. operandAt (nodeAt (t .nodes) node)) (λ t. lowerExpression freeTemp t node (destOf dest)) (now (nodes .entry)) (now (list .entry)) (now (names .entry))
         (now (code .entry)) (now (constants .entry)) (now (marks .entry)) (now (code .exit)) (now (constants .exit)) (now (marks .exit)) state r ⌝ }
 {
@@ -578,9 +578,9 @@ fn arguments(
     marks: &mut [u8],
     state: State,
     node: u32,
-) -> Lowered
-    requires { ⌜ (Ready (now nodes) (now list) (now names) node) × (wordOf (now nodes) node 0 ≡ callKind) ⌝ }
-    ensures { λ r. ⌜ Lowers (λ t. unitAt) (λ t. lowerArguments t (lowerExpression freeTemp t) node (wordOf (now (nodes .entry)) node 2) (wordOf (now (nodes .entry)) node 3) 0) (now (nodes .entry)) (now (list .entry)) (now (names .entry))
+) -> AnswerAndState
+    requires { ⌜ (Ready (now nodes) (now list) (now names) node) × (nodeWordOf (now nodes) node 0 ≡ callKind) ⌝ }
+    ensures { λ r. ⌜ Lowers (λ t. unitAt) (λ t. lowerArguments t (lowerExpression freeTemp t) node (nodeWordOf (now (nodes .entry)) node 2) (nodeWordOf (now (nodes .entry)) node 3) 0) (now (nodes .entry)) (now (list .entry)) (now (names .entry))
         (now (code .entry)) (now (constants .entry)) (now (marks .entry)) (now (code .exit)) (now (constants .exit)) (now (marks .exit)) state r ⌝ }
 {
     let first = node_word(nodes, node, 2) as usize;
@@ -621,8 +621,8 @@ fn property(
     state: State,
     node: u32,
     dest: u32,
-) -> Lowered
-    requires { ⌜ (ReadyTo (now nodes) (now list) (now names) node dest) × (wordOf (now nodes) node 0 ≡ propertyKind) ⌝ }
+) -> AnswerAndState
+    requires { ⌜ (ReadyTo (now nodes) (now list) (now names) node dest) × (nodeWordOf (now nodes) node 0 ≡ propertyKind) ⌝ }
     ensures { λ r. ⌜ Lowers (λ t. operandAt (nodeAt (t .nodes) node)) (λ t. lowerExpression freeTemp t node (destOf dest)) (now (nodes .entry)) (now (list .entry)) (now (names .entry))
         (now (code .entry)) (now (constants .entry)) (now (marks .entry)) (now (code .exit)) (now (constants .exit)) (now (marks .exit)) state r ⌝ }
 {
@@ -675,8 +675,8 @@ fn lower_map(
     state: State,
     node: u32,
     dest: u32,
-) -> Lowered
-    requires { ⌜ (ReadyTo (now nodes) (now list) (now names) node dest) × (wordOf (now nodes) node 0 ≡ mapKind) ⌝ }
+) -> AnswerAndState
+    requires { ⌜ (ReadyTo (now nodes) (now list) (now names) node dest) × (nodeWordOf (now nodes) node 0 ≡ mapKind) ⌝ }
     ensures { λ r. ⌜ Lowers (λ t. operandAt (nodeAt (t .nodes) node)) (λ t. lowerExpression freeTemp t node (destOf dest)) (now (nodes .entry)) (now (list .entry)) (now (names .entry))
         (now (code .entry)) (now (constants .entry)) (now (marks .entry)) (now (code .exit)) (now (constants .exit)) (now (marks .exit)) state r ⌝ }
 {
@@ -734,7 +734,7 @@ fn lower_map(
             s.instructions = f.instructions;
             s.constants = f.constants;
             if is_refusal(answer) {
-                return Lowered { state: s, answer };
+                return AnswerAndState { state: s, answer };
             }
         }
         i += 1;
@@ -756,7 +756,7 @@ fn entry(
     d: u32,
     key: u32,
     value: u32,
-) -> Lowered
+) -> AnswerAndState
     requires { ⌜ (Ready (now nodes) (now list) (now names) node) × EntryBelow node key value ⌝ }
     ensures { λ r. ⌜ Lowers (λ t. placeAt) (λ t. lowerEntry t (lowerExpression freeTemp t) (registerAt d) key value (nameOf (nodeAt (t .nodes) key))) (now (nodes .entry)) (now (list .entry)) (now (names .entry))
         (now (code .entry)) (now (constants .entry)) (now (marks .entry)) (now (code .exit)) (now (constants .exit)) (now (marks .exit)) state r ⌝ }
@@ -799,7 +799,7 @@ fn set_property(
     value: u32,
     src1: u32,
     src2: u32,
-) -> Lowered
+) -> AnswerAndState
     requires { ⌜ InArena (now nodes) key × InArena (now nodes) value ⌝ }
     ensures { λ r. ⌜ ((t : Tree) (E : ℕ → Dest → Walk Operand) (m : List ℕ) → settled (storeKeyed t E (registerAt d) (sourceAt (keyOperand (nodeAt (words (now (nodes .entry))) key)) src1) (sourceAt (literal (nodeAt (words (now (nodes .entry))) value)) src2)
         (made (words (now (code .entry))) (words (now (constants .entry))) m state))
@@ -835,7 +835,7 @@ fn lower_jump_if_false(
     marks: &mut [u8],
     state: State,
     node: u32,
-) -> Lowered
+) -> AnswerAndState
     requires { ⌜ Ready (now nodes) (now list) (now names) node ⌝ }
     ensures { λ r. ⌜ Lowers (λ t. placeAt) (λ t. lowerJumpIfFalse freeTemp t node) (now (nodes .entry)) (now (list .entry)) (now (names .entry))
         (now (code .entry)) (now (constants .entry)) (now (marks .entry)) (now (code .exit)) (now (constants .exit)) (now (marks .exit)) state r ⌝ }
@@ -863,7 +863,7 @@ pub(crate) fn lower_jump_if(
     state: State,
     node: u32,
     sense: bool,
-) -> Lowered
+) -> AnswerAndState
     requires { ⌜ Ready (now nodes) (now list) (now names) node ⌝ }
     ensures { λ r. ⌜ Lowers (λ t. placeAt) (λ t. jumpNode t (lowerExpression freeTemp t) sense (lowerExpression freeTemp t node) (nodeAt (t .nodes) node)) (now (nodes .entry)) (now (list .entry)) (now (names .entry))
         (now (code .entry)) (now (constants .entry)) (now (marks .entry)) (now (code .exit)) (now (constants .exit)) (now (marks .exit)) state r ⌝ }
@@ -916,9 +916,9 @@ fn test(
     state: State,
     node: u32,
     sense: bool,
-) -> Lowered
+) -> AnswerAndState
     requires { ⌜ Ready (now nodes) (now list) (now names) node ⌝ }
-    ensures { λ r. ⌜ Lowers (λ t. placeAt) (λ t. tested t (lowerExpression freeTemp t) sense (lowerExpression freeTemp t node)) (now (nodes .entry)) (now (list .entry)) (now (names .entry))
+    ensures { λ r. ⌜ Lowers (λ t. placeAt) (λ t. test t (lowerExpression freeTemp t) sense (lowerExpression freeTemp t node)) (now (nodes .entry)) (now (list .entry)) (now (names .entry))
         (now (code .entry)) (now (constants .entry)) (now (marks .entry)) (now (code .exit)) (now (constants .exit)) (now (marks .exit)) state r ⌝ }
 {
     let t = state;
@@ -951,7 +951,7 @@ fn fuse(
     state: State,
     node: u32,
     sense: bool,
-) -> Lowered
+) -> AnswerAndState
     requires { ⌜ (Ready (now nodes) (now list) (now names) node) × (isCompared (nodeAt (words (now nodes)) node) ≡ true) ⌝ }
     ensures { λ r. ⌜ Lowers (λ t. placeAt) (λ t. jumpNode t (lowerExpression freeTemp t) sense (lowerExpression freeTemp t node) (nodeAt (t .nodes) node)) (now (nodes .entry)) (now (list .entry)) (now (names .entry))
         (now (code .entry)) (now (constants .entry)) (now (marks .entry)) (now (code .exit)) (now (constants .exit)) (now (marks .exit)) state r ⌝ }

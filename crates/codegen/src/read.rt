@@ -9,7 +9,7 @@ ghost use Rattle.environment.specs.Environment.{lookup};
 ghost use Rattle.syntax.specs.Ast.{nodeWidth, nodeAt};
 ghost use Rattle.lowering.specs.Literals.{literal};
 ghost use Rattle.steps.specs.Answers.{literalWord};
-ghost use Rattle.codegen.specs.Ready.{InArena, wordOf};
+ghost use Rattle.codegen.specs.Ready.{InArena, nodeWordOf};
 ghost use Rattle.codegen.specs.Flat.{foundAt, LocalOr};
 use environment::Found;
 use environment::Register;
@@ -28,7 +28,7 @@ const NODE_BYTES: usize = 4 * NODE_WORDS;
 // Word k of a node of the arena.
 pub(crate) fn node_word(nodes: &[u8], node: u32, k: usize) -> u32
     requires { ⌜ InArena (now nodes) node × (k < nodeWidth) ⌝ }
-    ensures { λ r. ⌜ r ≡ wordOf (now (nodes .entry)) node k ⌝ }
+    ensures { λ r. ⌜ r ≡ nodeWordOf (now (nodes .entry)) node k ⌝ }
 {
     let at = NODE_BYTES * (node as usize);
     let end = at + NODE_BYTES;

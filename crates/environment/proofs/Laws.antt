@@ -95,9 +95,9 @@ module _ (s : RegisterSet) where
   place-takes r h = takes r (taken s .set) (ap (λ (p : Place). record { set = taken s .set; place = p }) h)
 
   -- a refusal is that of registers, leaves the set, and is answered only where all 256 are held
-  pub refused : (refusal : Refusal) → taken s .place ≡ Place.Refused refusal → Refuses s refusal (taken s .set)
+  pub take-refused : (refusal : Refusal) → taken s .place ≡ Place.Refused refusal → Refuses s refusal (taken s .set)
   unfolding taken
-  refused refusal h = go (ltb (smallestFree (s .words)) 256) refl h
+  take-refused refusal h = go (ltb (smallestFree (s .words)) 256) refl h
     where
       go : (b : Bool) → ltb (smallestFree (s .words)) 256 ≡ b → cond b (takenAt s) (takenNone s) .place ≡ Place.Refused refusal →
           Refuses s refusal (cond b (takenAt s) (takenNone s) .set)
@@ -109,21 +109,21 @@ module _ (s : RegisterSet) where
       }
 
   -- and it is answered wherever all 256 are held
-  pub full : ((j : ℕ) → j < 256 → held s j ≡ true) → taken s ≡ record { set = s; place = Place.Refused Refusal.Registers }
+  pub take-full : ((j : ℕ) → j < 256 → held s j ≡ true) → taken s ≡ record { set = s; place = Place.Refused Refusal.Registers }
   unfolding taken
-  full h = rw (smallestFree-none (s .words) (λ j l. not-free j l (free (s .words) j) refl))
+  take-full h = rw (smallestFree-none (s .words) (λ j l. not-free j l (free (s .words) j) refl))
     where
       not-free : (j : ℕ) → j < 256 → (b : Bool) → free (s .words) j ≡ b → b ≡ false
       not-free j l true e = absurd (true≢false (sym (h j l) ∙ held-of-free s j e))
       not-free j l false e = refl
 
   -- where some register is not held, one is answered
-  pub answered : (r : ℕ) → r < 256 → held s r ≡ false → (q : ℕ) × (taken s .place ≡ Place.At q)
-  answered r l h = go (taken s .place) refl
+  pub take-answered : (r : ℕ) → r < 256 → held s r ≡ false → (q : ℕ) × (taken s .place ≡ Place.At q)
+  take-answered r l h = go (taken s .place) refl
     where
       go : (p : Place) → taken s .place ≡ p → (q : ℕ) × (taken s .place ≡ Place.At q)
       go (Place.At q) e = (q, e)
-      go (Place.Refused refusal) e = absurd (true≢false (sym (refused refusal e .all-held r l) ∙ h))
+      go (Place.Refused refusal) e = absurd (true≢false (sym (take-refused refusal e .all-held r l) ∙ h))
 
 -- a take from a sound set
 module _ {s t : RegisterSet} {r : ℕ} (k : Takes s r t) (sound : Sound s) where
@@ -149,7 +149,7 @@ taken-sound s sound = go (taken s .place) refl
   where
     go : (p : Place) → taken s .place ≡ p → Sound (taken s .set)
     go (Place.At r) e = take-sound (place-takes s r e) sound
-    go (Place.Refused refusal) e = rw (refused s refusal e .unchanged) sound
+    go (Place.Refused refusal) e = rw (take-refused s refusal e .unchanged) sound
 
 -- a held register given back to a sound set is not held, and nothing else changes
 pub gives : (s : RegisterSet) (r : ℕ) → Sound s → held s r ≡ true → Gives s r (givenBack s r)
@@ -237,7 +237,7 @@ module _ (kind : ℕ → Register) (s : RegisterSet) where
     where
       go : (p : Place) → taken s .place ≡ p → found kind p ≡ Found.Refused refusal → Refuses s refusal (taken s .set)
       go (Place.At r) e q = let z : _≡_ {A = ℕ} 0 1 = cc in absurd (omega arith)
-      go (Place.Refused other) e q = let same : other ≡ refusal = cc in rw same at (refused s other e)
+      go (Place.Refused other) e q = let same : other ≡ refusal = cc in rw same at (take-refused s other e)
 
   -- the set is sound, whatever is answered
   pub allocated-sound : Sound s → Sound (allocated kind s .set)

@@ -5,7 +5,7 @@ ghost use lib.Seq.{sets};
 ghost use Rattle.words.specs.Words.{words, tail, bytesOf};
 ghost use Rattle.lowering.specs.Result.{numbersOf, lower, patchJump};
 use codegen::lower;
-use lower_ast::patch_jump;
+use patch::patch_jump;
 use result::numbers_of;
 use words::put_words;
 

@@ -12,15 +12,15 @@ use borrow.Author.Tests.{ne-eqb}
 use Rattle.listing.specs.declared.column.Column.{Column}
 use Rattle.listing.specs.Column.{columnBytes, readBytes, readColumn}
 use Rattle.listing.proofs.Columns.{false≢true}
-use Rattle.listing.specs.Text.{lineFeed, lineBytes, Read, gives, behind, readLine, below, readLines, fill}
+use Rattle.listing.specs.Text.{lineFeed, lineBytes, Read, readAs, behind, readLine, below, readLines, fill}
 
 -- past the end of a text there is no line, and so many lines as there are none of
-pub line-past : (w : ℕ) → readLine w [] ≡ gives [] false
+pub line-past : (w : ℕ) → readLine w [] ≡ readAs [] false
 unfolding readLine readColumn readBytes behind
 line-past zero = refl
 line-past (suc w) = refl
 
-pub lines-past : (w n : ℕ) → readLines w n [] ≡ gives [] (eqb n 0)
+pub lines-past : (w n : ℕ) → readLines w n [] ≡ readAs [] (eqb n 0)
 unfolding readLines below
 lines-past w zero = refl
 lines-past w (suc n) = rw (line-past w, ne-eqb (suc n) 0 (λ e. absurd (omega arith)))
@@ -50,11 +50,11 @@ module _ (s : List ℕ) (at w first : ℕ) where
       rw e (sym (rw c at (next ws k h)) ∙ i)
 
   pub line-fault : (ws : List ℕ) (k : ℕ) {c : Column} {q : Read} → k < w → readColumn (drop (at + columnBytes * k) s) ≡ c
-      → ((rest : Read) → behind c rest ≡ gives [] false) → lineLeft ws k ≡ q → gives ws false ≡ q
+      → ((rest : Read) → behind c rest ≡ readAs [] false) → lineLeft ws k ≡ q → readAs ws false ≡ q
   unfolding fill
   line-fault ws k h c none i = sym (ap (fill ws (first + k)) (none _)) ∙ sym (rw c at (next ws k h)) ∙ i
 
-  pub line-end : (ws : List ℕ) (k : ℕ) {q : Read} → w ≤ k → lineLeft ws k ≡ q → gives ws (eqb (getD s (at + columnBytes * k) 0) lineFeed) ≡ q
+  pub line-end : (ws : List ℕ) (k : ℕ) {q : Read} → w ≤ k → lineLeft ws k ≡ q → readAs ws (eqb (getD s (at + columnBytes * k) 0) lineFeed) ≡ q
   unfolding lineLeft readLine fill
   line-end ws k h i =
       let n : w - k ≡ 0 = omega arith in
@@ -62,7 +62,7 @@ module _ (s : List ℕ) (at w first : ℕ) where
       let g : getD (drop m s) 0 0 ≡ getD s m 0 = getD-drop m s 0 0 ∙ ap (λ (j : ℕ). getD s j 0) (add-zero m) in
       rw (← g) (rw n at i)
 
-  pub line-out : (ws : List ℕ) → length s < at → gives ws false ≡ fill ws first (readLine w (drop at s))
+  pub line-out : (ws : List ℕ) → length s < at → readAs ws false ≡ fill ws first (readLine w (drop at s))
   unfolding fill
   line-out ws h = sym (rw (drop-of-length-le s {i = at} (omega arith), line-past w))
 
@@ -118,7 +118,7 @@ module _ (s : List ℕ) (at w n : ℕ) where
         rw (m, e, drop-drop (lineBytes w) (at + lineBytes w * i) s)
 
     module _ {vs : List ℕ} {q : Read} where
-      pub lines-more : gives vs true ≡ fill ws (w * i) (readLine w (drop (at + lineBytes w * i) s)) → linesLeft ws i ≡ q → linesLeft vs (i + 1) ≡ q
+      pub lines-more : readAs vs true ≡ fill ws (w * i) (readLine w (drop (at + lineBytes w * i) s)) → linesLeft ws i ≡ q → linesLeft vs (i + 1) ≡ q
       unfolding linesLeft fill here rest
       lines-more l k =
           let g : here .good ≡ true = sym (ap (λ (r : Read). r .good) l) in
@@ -128,14 +128,14 @@ module _ (s : List ℕ) (at w n : ℕ) where
           ∙ ap (λ (j : ℕ). fill (sets ws (w * i) (here .words)) j rest) e
           ∙ sym (below-good ws (w * i) here rest g) ∙ sym this-line ∙ k
 
-      pub lines-fault : gives vs false ≡ fill ws (w * i) (readLine w (drop (at + lineBytes w * i) s)) → linesLeft ws i ≡ q → gives vs false ≡ q
+      pub lines-fault : readAs vs false ≡ fill ws (w * i) (readLine w (drop (at + lineBytes w * i) s)) → linesLeft ws i ≡ q → readAs vs false ≡ q
       unfolding fill here
       lines-fault l k = l ∙ sym (below-bad ws (w * i) here rest (sym (ap (λ (r : Read). r .good) l))) ∙ sym this-line ∙ k
 
-  pub lines-end : (ws : List ℕ) (i : ℕ) {q : Read} → n ≤ i → linesLeft ws i ≡ q → gives ws true ≡ q
+  pub lines-end : (ws : List ℕ) (i : ℕ) {q : Read} → n ≤ i → linesLeft ws i ≡ q → readAs ws true ≡ q
   unfolding linesLeft readLines fill
   lines-end ws i h k = let m : n - i ≡ 0 = omega arith in rw m at k
 
-  pub lines-out : (ws : List ℕ) → length s < at → gives ws (eqb n 0) ≡ fill ws 0 (readLines w n (drop at s))
+  pub lines-out : (ws : List ℕ) → length s < at → readAs ws (eqb n 0) ≡ fill ws 0 (readLines w n (drop at s))
   unfolding fill
   lines-out ws h = sym (rw (drop-of-length-le s {i = at} (omega arith), lines-past w n))

@@ -16,7 +16,7 @@ use Rattle.listing.specs.declared.column.Column.{Column}
 use Rattle.listing.specs.declared.text.Header.{Header}
 use Rattle.listing.specs.declared.text.Head.{Head}
 use Rattle.listing.specs.Column.{columnBytes, space, digitZero, maxWord, isDigit, first, more, step, readBytes, readColumn, padding, padded, writeColumn}
-use Rattle.listing.specs.Text.{nodesBound, listWordsBound, parametersBound, lineFeed, lineBytes, Read, gives, behind, readLine, below, readLines, headerWidth, listWidth, nameWidth, headerOf, nodesAt, listAt, namesAt, textBytes, within, headed, readHeader, readNodes, readList, readNames, checked, readText, Tree, treeOf, readTree}
+use Rattle.listing.specs.Text.{nodesBound, listWordsBound, parametersBound, lineFeed, lineBytes, Read, readAs, behind, readLine, below, readLines, headerWidth, listWidth, nameWidth, headerOf, nodesAt, listAt, namesAt, textBytes, within, headed, readHeader, readNodes, readList, readNames, checkedHead, readText, TextTree, textTree, readTree}
 use Rattle.listing.specs.Output.{writeLine, writeLines, headerWords, writeTree, Words, Fits}
 use Rattle.listing.proofs.Columns.{false≢true, and-true, digit-bounds, read-short, steps, steps-append, read-steps}
 use Rattle.listing.proofs.Lines.{line-width}
@@ -141,8 +141,8 @@ LinesOf w n s ws = (take (lineBytes w * n) s ≡ writeLines w n ws) × Words ws 
 
 below-only : (w n : ℕ) (s : List ℕ) (line rest : Read) (b : Bool) → line .good ≡ b → (line .good ≡ true → LineOf w s (line .words))
     → (line .good ≡ true → length (line .words) ≡ w) → (rest .good ≡ true → LinesOf w n (drop (lineBytes w) s) (rest .words))
-    → cond b (gives (line .words ++ rest .words) (rest .good)) line .good ≡ true
-    → LinesOf w (suc n) s (cond b (gives (line .words ++ rest .words) (rest .good)) line .words)
+    → cond b (readAs (line .words ++ rest .words) (rest .good)) line .good ≡ true
+    → LinesOf w (suc n) s (cond b (readAs (line .words ++ rest .words) (rest .good)) line .words)
 unfolding writeLines
 below-only w n s line rest true e one width others g =
     let here = one e in
@@ -202,7 +202,7 @@ pub record GoodText (s : List ℕ) (h : Header) : Type 0 where
   pub names : readNames h s .good ≡ true
 
 pub text-only : (s : List ℕ) (h : Header) → readText s ≡ Head.Good h → GoodText s h
-unfolding readText checked
+unfolding readText checkedHead
 text-only s h e = go (readHeader s) refl e
   where
     tables : (k : Header) (b : Bool) → readHeader s ≡ Head.Good k → (readNodes k s .good && readList k s .good && readNames k s .good) ≡ b
@@ -214,7 +214,7 @@ text-only s h e = go (readHeader s) refl e
         record { head = r ∙ ap Head.Good same; header = header-only s h (r ∙ ap Head.Good same); nodes = inner .0; list = inner .1; names = outer .1 }
     tables k false r t e = absurd (let z : _≡_ {A = ℕ} 0 1 = cc in omega arith)
 
-    go : (k : Head) → readHeader s ≡ k → checked k s ≡ Head.Good h → GoodText s h
+    go : (k : Head) → readHeader s ≡ k → checkedHead k s ≡ Head.Good h → GoodText s h
     go Head.Bad r e = absurd (let z : _≡_ {A = ℕ} 0 1 = cc in omega arith)
     go (Head.Good k) r e = tables k (readNodes k s .good && readList k s .good && readNames k s .good) r refl e
 
@@ -229,7 +229,7 @@ five (a ∷ b ∷ c ∷ d ∷ e ∷ f ∷ ws) h = absurd (omega arith)
 
 -- a good text is the writing of its tree
 module _ (s : List ℕ) (h : Header) (g : GoodText s h) where
-  abbrev given : Tree
+  abbrev given : TextTree
   given = record { mode = h .mode; root = h .root; nodes = readNodes h s .words; list = readList h s .words; names = readNames h s .words }
 
   abbrev said : List ℕ
@@ -301,11 +301,11 @@ module _ (s : List ℕ) (h : Header) (g : GoodText s h) where
       }
 
 -- A text that gives a tree is that tree, written in columns, and the tree is within the bounds.
-pub tree-only : (s : List ℕ) (t : Tree) → readTree s ≡ some t → (s ≡ writeTree t) × Fits t
-unfolding readTree treeOf
+pub tree-only : (s : List ℕ) (t : TextTree) → readTree s ≡ some t → (s ≡ writeTree t) × Fits t
+unfolding readTree textTree
 tree-only s t e = go (readText s) refl e
   where
-    go : (k : Head) → readText s ≡ k → treeOf k s ≡ some t → (s ≡ writeTree t) × Fits t
+    go : (k : Head) → readText s ≡ k → textTree k s ≡ some t → (s ≡ writeTree t) × Fits t
     go Head.Bad r e = absurd (let z : _≡_ {A = ℕ} 0 1 = cc in omega arith)
     go (Head.Good h) r e =
         let g : GoodText s h = text-only s h r in

@@ -16,7 +16,7 @@ use Rattle.runtime.specs.Value.{constantWidth}
 use Rattle.lowering.specs.Result.{Lowered, lower}
 use Rattle.listing.specs.declared.text.Header.{Header}
 use Rattle.listing.specs.declared.text.Head.{Head}
-use Rattle.listing.specs.Text.{nodesBound, listWordsBound, parametersBound, Read, listWidth, nameWidth, readHeader, readNodes, readList, readNames, readText, treeOf, readTree, filled}
+use Rattle.listing.specs.Text.{nodesBound, listWordsBound, parametersBound, Read, listWidth, nameWidth, readHeader, readNodes, readList, readNames, readText, textTree, readTree, filled}
 use Rattle.listing.specs.Output.{instructionsBound, constantsBound, marksBound, writeLines, printed, listing, lowerTree, printTree, lowerlist}
 use Rattle.listing.proofs.Columns.{and-true}
 use Rattle.listing.proofs.Only.{text-only, nodes-only, list-only, names-only}
@@ -79,7 +79,7 @@ module _ (s : List ℕ) (h : Header) (e : readText s ≡ Head.Good h) where
   pub good-prints : lowerlist s ≡ listing
       (lower (bytesOf (readNodes h s .words)) (h .root) (h .mode) (bytesOf (readList h s .words)) (bytesOf (readNames h s .words))
       (replicate (instructionWidth * instructionsBound) 0) (replicate (constantWidth * constantsBound) 0) (replicate marksBound 0))
-  unfolding lowerlist readTree treeOf printTree lowerTree
+  unfolding lowerlist readTree textTree printTree lowerTree
   good-prints = rw e
 
   -- and so does what lowering leaves, of those bytes and of buffers of zeros
@@ -91,5 +91,5 @@ module _ (s : List ℕ) (h : Header) (e : readText s ≡ Head.Good h) where
 
 -- a bad text prints number 1 and zeros, whatever the buffers hold
 pub bad-prints : (s code constants : List ℕ) → readText s ≡ Head.Bad → lowerlist s ≡ printed (1 ∷ 0 ∷ 0 ∷ 0 ∷ 0 ∷ 0 ∷ 0 ∷ 0 ∷ []) code constants
-unfolding lowerlist readTree treeOf printTree printed writeLines
+unfolding lowerlist readTree textTree printTree printed writeLines
 bad-prints s code constants e = rw e

@@ -3,10 +3,10 @@ use Prim.Native.Nat.{ℕ}
 use native.Mathlib.Omega.{arith}
 use mathlib.Core.List.{List, []}
 use lib.ListN.{length, replicate, length-replicate}
-use Rattle.listing.specs.Text.{Tree}
+use Rattle.listing.specs.Text.{TextTree}
 use Rattle.listing.specs.Output.{Fits}
 
-abbrev pub treeWith : ℕ → List ℕ → Tree
+abbrev pub treeWith : ℕ → List ℕ → TextTree
 treeWith mode list = record { mode = mode; root = 0; nodes = []; list = list; names = [] }
 
 pub list-refuted : Fits (treeWith 0 (replicate 513 0)) → ⊥

@@ -14,7 +14,7 @@ use Rattle.listing.specs.declared.column.Column.{Column}
 use Rattle.listing.specs.declared.text.Header.{Header}
 use Rattle.listing.specs.declared.text.Head.{Head}
 use Rattle.listing.specs.Column.{columnBytes, maxWord, writeColumn}
-use Rattle.listing.specs.Text.{nodesBound, listWordsBound, parametersBound, lineBytes, gives, behind, readLine, below, readLines, headerWidth, listWidth, nameWidth, headerOf, nodesAt, listAt, namesAt, textBytes, within, readHeader, readNodes, readList, readNames, readText, Tree, treeOf, readTree}
+use Rattle.listing.specs.Text.{nodesBound, listWordsBound, parametersBound, lineBytes, readAs, behind, readLine, below, readLines, headerWidth, listWidth, nameWidth, headerOf, nodesAt, listAt, namesAt, textBytes, within, readHeader, readNodes, readList, readNames, readText, TextTree, textTree, readTree}
 use Rattle.listing.specs.Output.{writeLine, writeLines, headerWords, writeTree, Words, Fits}
 use Rattle.listing.proofs.Columns.{column-back, length-column}
 use Rattle.listing.proofs.Written.{length-line, length-lines}
@@ -23,7 +23,7 @@ use Rattle.listing.proofs.Texts.{header-good, text-good}
 drop-words : (n : ℕ) (ws : List ℕ) → Words ws → Words (drop n ws)
 drop-words n ws h i = omega (arith, getD-drop n ws i 0, h (n + i))
 
-pub line-back : (w : ℕ) (ws s : List ℕ) → w ≤ length ws → Words ws → readLine w (writeLine w ws ++ s) ≡ gives (take w ws) true
+pub line-back : (w : ℕ) (ws s : List ℕ) → w ≤ length ws → Words ws → readLine w (writeLine w ws ++ s) ≡ readAs (take w ws) true
 unfolding readLine writeLine behind
 line-back zero ws s l h = refl
 line-back (suc w) [] s l h = absurd (omega arith)
@@ -32,7 +32,7 @@ line-back (suc w) (x ∷ ws) s l h =
     rw (append-assoc (writeColumn x) (writeLine w ws) s, column-back x rest (h 0), drop-at (writeColumn x) rest columnBytes (length-column x))
     (ap (behind (Column.Number x)) (line-back w ws s (omega arith) (λ i. h (suc i))))
 
-pub lines-back : (w n : ℕ) (ws s : List ℕ) → length ws ≡ w * n → Words ws → readLines w n (writeLines w n ws ++ s) ≡ gives ws true
+pub lines-back : (w n : ℕ) (ws s : List ℕ) → length ws ≡ w * n → Words ws → readLines w n (writeLines w n ws ++ s) ≡ readAs ws true
 unfolding readLines writeLines below
 lines-back w zero [] s l h = refl
 lines-back w zero (x ∷ ws) s l h = absurd (omega (arith, mul-zero w))
@@ -41,11 +41,11 @@ lines-back w (suc n) ws s l h =
     let rest : List ℕ = writeLines w n (drop w ws) ++ s in
     let more : length (drop w ws) ≡ w * n = omega (arith, length-drop w ws) in
     let long : w ≤ length ws = omega arith in
-    let others : readLines w n rest ≡ gives (drop w ws) true = lines-back w n (drop w ws) s more (drop-words w ws h) in
+    let others : readLines w n rest ≡ readAs (drop w ws) true = lines-back w n (drop w ws) s more (drop-words w ws h) in
     rw (append-assoc line (writeLines w n (drop w ws)) s, line-back w ws rest long h, drop-at line rest (lineBytes w) (length-line w ws))
     (rw (others, take-append-drop w ws))
 
-module _ (t : Tree) where
+module _ (t : TextTree) where
   abbrev count : ℕ
   count = length (t .nodes) / nodeWidth
 
@@ -94,7 +94,7 @@ module _ (t : Tree) where
   from-nodes = from-list ∙ append-assoc headerPart nodesPart (listPart ++ namesPart)
 
   module _ (f : Fits t) where
-    header-read : readLine headerWidth (writeTree t) ≡ gives (headerWords t) true
+    header-read : readLine headerWidth (writeTree t) ≡ readAs (headerWords t) true
     unfolding headerPart
     header-read = rw (parts, from-nodes) (line-back headerWidth (headerWords t) (nodesPart ++ (listPart ++ namesPart)) (omega arith) fits)
       where
@@ -106,19 +106,19 @@ module _ (t : Tree) where
         fits (suc (suc (suc (suc zero)))) = omega (arith, f .few-names)
         fits (suc (suc (suc (suc (suc i))))) = omega arith
 
-    nodes-read : readNodes header (writeTree t) ≡ gives (t .nodes) true
+    nodes-read : readNodes header (writeTree t) ≡ readAs (t .nodes) true
     unfolding readNodes nodesPart
     nodes-read =
         rw (parts, from-nodes, drop-at headerPart (nodesPart ++ (listPart ++ namesPart)) nodesAt length-header)
         (lines-back nodeWidth count (t .nodes) (listPart ++ namesPart) (f .whole) (f .nodes))
 
-    list-read : readList header (writeTree t) ≡ gives (t .list) true
+    list-read : readList header (writeTree t) ≡ readAs (t .list) true
     unfolding readList listPart
     list-read =
         rw (parts, from-list, drop-at (headerPart ++ nodesPart) (listPart ++ namesPart) (listAt header) length-nodes)
         (lines-back listWidth (length (t .list)) (t .list) namesPart (omega arith) (f .list))
 
-    names-read : readNames header (writeTree t) ≡ gives (t .names) true
+    names-read : readNames header (writeTree t) ≡ readAs (t .names) true
     unfolding readNames namesPart
     names-read =
         rw (parts, drop-at (headerPart ++ nodesPart ++ listPart) namesPart (namesAt header) length-list, ← append-nil namesPart)
@@ -140,5 +140,5 @@ module _ (t : Tree) where
 
     -- A tree that is written in columns is read back.
     pub tree-back : readTree (writeTree t) ≡ some t
-    unfolding readTree treeOf
+    unfolding readTree textTree
     tree-back = rw (good-text, nodes-read, list-read, names-read)

@@ -11,7 +11,7 @@ use Rattle.words.specs.Words.{words, tail}
 use Rattle.words.proofs.Words.{bytes-words}
 use Rattle.listing.specs.declared.text.Header.{Header}
 use Rattle.listing.specs.declared.text.Head.{Head}
-use Rattle.listing.specs.Text.{Read, gives, readLine, fill, headerWidth, headerOf, within, textBytes, headed, readHeader, readNodes, readList, readNames, checked, readText, filled}
+use Rattle.listing.specs.Text.{Read, readAs, readLine, fill, headerWidth, headerOf, within, textBytes, headed, readHeader, readNodes, readList, readNames, checkedHead, readText, filled}
 use Rattle.listing.proofs.Lines.{line-width}
 
 -- a run of stores over all of a list
@@ -23,7 +23,7 @@ sets-all l vs e =
 
 module _ (s : List ℕ) where
   -- the line of a header, read into a buffer for it
-  module _ (zs vs : List ℕ) (b : Bool) (e : gives vs b ≡ fill zs (headerWidth * 0) (readLine headerWidth (drop 0 s))) where
+  module _ (zs vs : List ℕ) (b : Bool) (e : readAs vs b ≡ fill zs (headerWidth * 0) (readLine headerWidth (drop 0 s))) where
     pub header-line : readLine headerWidth s .good ≡ b
     unfolding fill
     header-line = sym (ap (λ (r : Read). r .good) e)
@@ -52,7 +52,7 @@ module _ (s : List ℕ) where
     header-good i n = rw (g, ← e, i, eq-eqb (length s) (textBytes h) n)
 
 -- what is read into a buffer from its start on, by its parts
-module _ (vs ws : List ℕ) (b : Bool) (r : Read) (e : gives vs b ≡ fill ws 0 r) where
+module _ (vs ws : List ℕ) (b : Bool) (r : Read) (e : readAs vs b ≡ fill ws 0 r) where
   pub fill-good : b ≡ r .good
   unfolding fill
   fill-good = ap (λ (x : Read). x .good) e
@@ -65,11 +65,11 @@ module _ (vs ws : List ℕ) (b : Bool) (r : Read) (e : gives vs b ≡ fill ws 0 
 module _ (s : List ℕ) (h : Header) (e : readHeader s ≡ Head.Good h) where
   module _ {b : Bool} (g : b ≡ (readNodes h s .good && readList h s .good && readNames h s .good)) where
     pub text-good : b ≡ true → Head.Good h ≡ readText s
-    unfolding readText checked
+    unfolding readText checkedHead
     text-good t = rw (e, ← g, t)
 
     pub text-fault : b ≡ false → Head.Bad ≡ readText s
-    unfolding readText checked
+    unfolding readText checkedHead
     text-fault t = rw (e, ← g, t)
 
   pub text-filled : (reads : Header → List ℕ → Read) (vs bytes : List ℕ) → ((i : ℕ) → getD vs i 0 < 256)
@@ -80,7 +80,7 @@ module _ (s : List ℕ) (h : Header) (e : readHeader s ≡ Head.Good h) where
 -- and of which it is bad
 module _ (s : List ℕ) (e : readHeader s ≡ Head.Bad) where
   pub text-bad : Head.Bad ≡ readText s
-  unfolding readText checked
+  unfolding readText checkedHead
   text-bad = rw e
 
   pub text-unread : (reads : Header → List ℕ → Read) (bytes : List ℕ) → bytes ≡ filled reads (readHeader s) s bytes

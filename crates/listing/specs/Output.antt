@@ -12,7 +12,7 @@ use Rattle.runtime.specs.Instruction.{instructionWidth}
 use Rattle.runtime.specs.Value.{constantWidth}
 use Rattle.lowering.specs.Result.{result, numbersOf, Lowered, lower}
 use Rattle.listing.specs.Column.{maxWord, writeColumn}
-use Rattle.listing.specs.Text.{lineFeed, lineBytes, headerWidth, listWidth, nameWidth, nodesBound, listWordsBound, parametersBound, Tree, readTree}
+use Rattle.listing.specs.Text.{lineFeed, lineBytes, headerWidth, listWidth, nameWidth, nodesBound, listWordsBound, parametersBound, TextTree, readTree}
 
 -- a line of w columns: the first w words of ws, 0 past the last, and a line feed
 unfoldable pub writeLine : ℕ → List ℕ → List ℕ
@@ -49,13 +49,13 @@ marksBound = 512
 abbrev pub longestListing : ℕ
 longestListing = lineBytes resultWidth + lineBytes instructionWidth * instructionsBound + lineBytes constantWidth * constantsBound
 
-unfoldable pub lowerTree : Tree → Lowered
+unfoldable pub lowerTree : TextTree → Lowered
 lowerTree t =
     lower (bytesOf (t .nodes)) (t .root) (t .mode) (bytesOf (t .list)) (bytesOf (t .names))
     (replicate (instructionWidth * instructionsBound) 0) (replicate (constantWidth * constantsBound) 0) (replicate marksBound 0)
 
 -- "Text laid out otherwise or past them prints number 1 and zeros."
-unfoldable pub printTree : Option Tree → List ℕ
+unfoldable pub printTree : Option TextTree → List ℕ
 printTree none = printed (numbersOf (result (refusalNumber Refusal.Size) 0 0 0 0 0 0 0)) [] []
 printTree (some t) = listing (lowerTree t)
 
@@ -64,10 +64,10 @@ unfoldable pub lowerlist : List ℕ → List ℕ
 lowerlist s = printTree (readTree s)
 
 -- a tree in columns: the text that gives it
-abbrev pub headerWords : Tree → List ℕ
+abbrev pub headerWords : TextTree → List ℕ
 headerWords t = t .mode ∷ t .root ∷ length (t .nodes) / nodeWidth ∷ length (t .list) ∷ length (t .names) ∷ []
 
-unfoldable pub writeTree : Tree → List ℕ
+unfoldable pub writeTree : TextTree → List ℕ
 writeTree t =
     writeLine headerWidth (headerWords t)
     ++ writeLines nodeWidth (length (t .nodes) / nodeWidth) (t .nodes)
@@ -79,7 +79,7 @@ abbrev pub Words : List ℕ → Type 0
 Words ws = (i : ℕ) → getD ws i 0 ≤ maxWord
 
 -- a tree that a text can give: whole nodes, within the bounds, and words
-pub record Fits (t : Tree) : Type 0 where
+pub record Fits (t : TextTree) : Type 0 where
   pub whole : length (t .nodes) ≡ nodeWidth * (length (t .nodes) / nodeWidth)
   pub few-nodes : length (t .nodes) / nodeWidth ≤ nodesBound
   pub few-words : length (t .list) ≤ listWordsBound

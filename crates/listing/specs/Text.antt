@@ -26,27 +26,27 @@ pub record Read : Type 0 where
   pub words : List ℕ
   pub good : Bool
 
-abbrev pub gives : List ℕ → Bool → Read
-gives ws good = record { words = ws; good = good }
+abbrev pub readAs : List ℕ → Bool → Read
+readAs ws good = record { words = ws; good = good }
 
 -- a column, and what follows it in its line
 unfoldable pub behind : Column → Read → Read
-behind Column.Blank rest = gives [] false
-behind (Column.Number x) rest = gives (x ∷ rest .words) (rest .good)
-behind Column.Bad rest = gives [] false
+behind Column.Blank rest = readAs [] false
+behind (Column.Number x) rest = readAs (x ∷ rest .words) (rest .good)
+behind Column.Bad rest = readAs [] false
 
 -- the line of w columns at the start of s: its columns, one after the other, and a line feed
 unfoldable pub readLine : ℕ → List ℕ → Read
-readLine zero s = gives [] (eqb (getD s 0 0) lineFeed)
+readLine zero s = readAs [] (eqb (getD s 0 0) lineFeed)
 readLine (suc w) s = behind (readColumn s) (readLine w (drop columnBytes s))
 
 -- a line, and the lines below it
 unfoldable pub below : Read → Read → Read
-below line rest = cond (line .good) (gives (line .words ++ rest .words) (rest .good)) line
+below line rest = cond (line .good) (readAs (line .words ++ rest .words) (rest .good)) line
 
 -- the n lines of w columns at the start of s
 unfoldable pub readLines : ℕ → ℕ → List ℕ → Read
-readLines w zero s = gives [] true
+readLines w zero s = readAs [] true
 readLines w (suc n) s = below (readLine w s) (readLines w n (drop (lineBytes w) s))
 
 abbrev pub headerWidth : ℕ
@@ -112,24 +112,24 @@ unfoldable pub readNames : Header → List ℕ → Read
 readNames h s = readLines nameWidth (h .names) (drop (namesAt h) s)
 
 -- the header of a text all of whose lines are good
-unfoldable pub checked : Head → List ℕ → Head
-checked Head.Bad s = Head.Bad
-checked (Head.Good h) s = cond (readNodes h s .good && readList h s .good && readNames h s .good) (Head.Good h) Head.Bad
+unfoldable pub checkedHead : Head → List ℕ → Head
+checkedHead Head.Bad s = Head.Bad
+checkedHead (Head.Good h) s = cond (readNodes h s .good && readList h s .good && readNames h s .good) (Head.Good h) Head.Bad
 
 unfoldable pub readText : List ℕ → Head
-readText s = checked (readHeader s) s
+readText s = checkedHead (readHeader s) s
 
 -- the tree of a text: mode and root, and the words of its nodes, of its list and of its parameters' names
-pub record Tree : Type 0 where
+pub record TextTree : Type 0 where
   pub mode : ℕ
   pub root : ℕ
   pub nodes : List ℕ
   pub list : List ℕ
   pub names : List ℕ
 
-unfoldable pub treeOf : Head → List ℕ → Option Tree
-treeOf Head.Bad s = none
-treeOf (Head.Good h) s =
+unfoldable pub textTree : Head → List ℕ → Option TextTree
+textTree Head.Bad s = none
+textTree (Head.Good h) s =
     some (record {
       mode = h .mode;
       root = h .root;
@@ -139,12 +139,12 @@ treeOf (Head.Good h) s =
     })
 
 -- the tree of a text, or none: "Text laid out otherwise or past them prints number 1 and zeros."
-unfoldable pub readTree : List ℕ → Option Tree
-readTree s = treeOf (readText s) s
+unfoldable pub readTree : List ℕ → Option TextTree
+readTree s = textTree (readText s) s
 
 -- what reading leaves in a buffer: the words from `at` on, up to the first fault, and whether there is none
 unfoldable pub fill : List ℕ → ℕ → Read → Read
-fill ws at r = gives (sets ws at (r .words)) (r .good)
+fill ws at r = readAs (sets ws at (r .words)) (r .good)
 
 -- what a text leaves in a buffer, by its bytes: the words of one part at its start, up to the first fault; nothing where the header is bad
 unfoldable pub filled : (Header → List ℕ → Read) → Head → List ℕ → List ℕ → List ℕ

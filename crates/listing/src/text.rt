@@ -5,7 +5,7 @@ ghost use mathlib.Core.Bool.{_&&_};
 ghost use lib.ListN.{getD, drop};
 ghost use lib.Seq.{sets};
 ghost use Rattle.words.specs.Words.{words, tail};
-ghost use Rattle.listing.specs.Text.{gives, readLine, readLines, fill, headerOf, listAt, namesAt, textBytes, within};
+ghost use Rattle.listing.specs.Text.{readAs, readLine, readLines, fill, headerOf, listAt, namesAt, textBytes, within};
 ghost use Rattle.listing.specs.Text.{readHeader, readNodes, readList, readNames, readText, filled};
 use crate::column::COLUMN_BYTES;
 use crate::column::Column;
@@ -56,7 +56,7 @@ fn byte(s: &[u8], i: usize) -> u8
 
 // Reads the line of `width` columns at `at` into record `place`, up to the first column that is none. The answer is whether it is such a line.
 fn read_line(s: &[u8], at: usize, width: u8, out: &mut [u8], place: u32) -> bool
-    ensures words { λ r. ⌜ gives (words (now (out .exit))) r ≡ fill (words (now (out .entry))) (width * place) (readLine width (drop at (now (s .entry)))) ⌝ }
+    ensures words { λ r. ⌜ readAs (words (now (out .exit))) r ≡ fill (words (now (out .entry))) (width * place) (readLine width (drop at (now (s .entry)))) ⌝ }
     ensures tail { λ _. ⌜ tail (now (out .exit)) ≡ tail (now (out .entry)) ⌝ }
 {
     if s.len() < at {
@@ -78,7 +78,7 @@ fn read_line(s: &[u8], at: usize, width: u8, out: &mut [u8], place: u32) -> bool
 
 // Reads the `count` lines of `width` columns that begin at `at`, up to the first fault. The answer is whether they are such lines.
 pub fn read_lines(s: &[u8], at: usize, width: u8, count: u32, out: &mut [u8]) -> bool
-    ensures words { λ r. ⌜ gives (words (now (out .exit))) r ≡ fill (words (now (out .entry))) 0 (readLines width count (drop at (now (s .entry)))) ⌝ }
+    ensures words { λ r. ⌜ readAs (words (now (out .exit))) r ≡ fill (words (now (out .entry))) 0 (readLines width count (drop at (now (s .entry)))) ⌝ }
     ensures tail { λ _. ⌜ tail (now (out .exit)) ≡ tail (now (out .entry)) ⌝ }
 {
     if s.len() < at {

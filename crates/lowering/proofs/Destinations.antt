@@ -25,22 +25,22 @@ use Rattle.lowering.specs.Checked.{Checked}
 use Rattle.lowering.specs.Walk.{Made, Outcome, ends, stops, Walk, bind, ret, error}
 use Rattle.lowering.specs.Steps.{allocateTemp, freeTemp, destination, store, emit, loadConstant, patchArgument, patchMarks}
 use Rattle.lowering.specs.Literals.{isLiteral, literal}
-use Rattle.lowering.specs.Lower.{Source, register, constant, source, sameRegister, materialized, lowerMaterializing, moved, named, lowerTail, binarySources, lowerNode, expressionBelow, jumpBelow, lowerExpression}
+use Rattle.lowering.specs.Lower.{Source, register, constant, source, sameRegister, materialized, lowerMaterializing, moved, lowerName, lowerTail, binarySources, lowerNode, expressionBelow, jumpBelow, lowerExpression}
 use Rattle.lowering.proofs.Bound.Lowering.{expression-at}
 use Rattle.lowering.proofs.Running.Steps.{Holds, fine, void, chain}
 
 -- ---- outcomes
 
 -- an outcome that stops, or ends with x
-unfoldable pub EndsWith : {A : Type 0} → A → Outcome A → Type 0
-EndsWith x (ends y m) = y ≡ x
-EndsWith x (stops e m) = Unit {0}
+unfoldable pub OnlyAnswer : {A : Type 0} → A → Outcome A → Type 0
+OnlyAnswer x (ends y m) = y ≡ x
+OnlyAnswer x (stops e m) = Unit {0}
 
 -- so the rest may take x for the answer
-pub ends-with : {A B : Type 0} (x : A) (o : Outcome A) (k : A → Walk B) → EndsWith x o → bind o k ≡ bind o (λ y. k x)
-unfolding EndsWith bind
-ends-with x (ends y m) k e = rw e
-ends-with x (stops f m) k e = refl
+pub only-answer : {A B : Type 0} (x : A) (o : Outcome A) (k : A → Walk B) → OnlyAnswer x o → bind o k ≡ bind o (λ y. k x)
+unfolding OnlyAnswer bind
+only-answer x (ends y m) k e = rw e
+only-answer x (stops f m) k e = refl
 
 -- an outcome that stops, or ends with a register
 unfoldable pub GivesRegister : Outcome Operand → Type 0
@@ -108,18 +108,18 @@ unfolding GivesRegister
 aimed-gives o (fine {a = x} {m = m} a) = subst (λ x. GivesRegister (ends x m)) (sym (a .is)) tt
 aimed-gives o void = tt
 
-holds-with : {A : Type 0} {x : A} {o : Outcome A} → Holds (λ y m. y ≡ x) o → EndsWith x o
-unfolding EndsWith
+holds-with : {A : Type 0} {x : A} {o : Outcome A} → Holds (λ y m. y ≡ x) o → OnlyAnswer x o
+unfolding OnlyAnswer
 holds-with (fine e) = e
 holds-with void = tt
 
 -- what is in the register asked for stays there
-kept-into : (d : Register) {o : Outcome Operand} → Holds (Aimed (Dest.To d)) o → EndsWith d (bind o (λ src. materialized (source src) (Dest.To d)))
+kept-into : (d : Register) {o : Outcome Operand} → Holds (Aimed (Dest.To d)) o → OnlyAnswer d (bind o (λ src. materialized (source src) (Dest.To d)))
 unfolding source materialized
 kept-into d h = holds-with (chain h (λ x m a. rw (a .is) (fine (a .at))))
 
 -- a constant is loaded into it
-loaded-into : (c : Operand) (d : Register) (m : Made) → EndsWith d (loadConstant c (Dest.To d) m)
+loaded-into : (c : Operand) (d : Register) (m : Made) → OnlyAnswer d (loadConstant c (Dest.To d) m)
 unfolding loadConstant destination bind
 loaded-into c d m = holds-with (past (store c m) (λ k m₁. past (emit _ m₁) (λ p m₂. fine refl)))
 
@@ -133,8 +133,8 @@ module _ (t : Tree) (E : ℕ → Dest → Walk Operand) (J : ℕ → Walk ℕ) (
       go true = aimed d refl
       go false = past _ (λ p n. aimed d refl)
 
-  named-aimed : (f : Found) (dest : Dest) (m : Made) → Holds (Aimed dest) (named t i f dest m)
-  unfolding named
+  named-aimed : (f : Found) (dest : Dest) (m : Made) → Holds (Aimed dest) (lowerName t i f dest m)
+  unfolding lowerName
   named-aimed (Found.At r) dest m = moved-aimed r dest m
   named-aimed (Found.Refused refusal) dest m = void
 
@@ -202,11 +202,11 @@ module _ (t : Tree) (E : ℕ → Dest → Walk Operand) (J : ℕ → Walk ℕ) (
   literal-loaded n l dest m = rw (literal-of n l dest, literal-source n)
 
   -- with a destination given, that register is the answer
-  pub materializing-into : (n : Node) (d : Register) (m : Made) → EndsWith d (lowerMaterializing (λ dest. lowerNode freeTemp t E J i n dest) (Dest.To d) m)
+  pub materializing-into : (n : Node) (d : Register) (m : Made) → OnlyAnswer d (lowerMaterializing (λ dest. lowerNode freeTemp t E J i n dest) (Dest.To d) m)
   unfolding lowerMaterializing
   materializing-into n d m = go (isLiteral n) refl
     where
-      go : (b : Bool) → isLiteral n ≡ b → EndsWith d (lowerMaterializing (λ dest. lowerNode freeTemp t E J i n dest) (Dest.To d) m)
+      go : (b : Bool) → isLiteral n ≡ b → OnlyAnswer d (lowerMaterializing (λ dest. lowerNode freeTemp t E J i n dest) (Dest.To d) m)
       go true l = rw (literal-loaded n l (Dest.To d) m) (loaded-into (literal n) d m)
       go false l = kept-into d (node-aimed n l (Dest.To d) m)
 
@@ -219,7 +219,7 @@ module _ (t : Tree) (E : ℕ → Dest → Walk Operand) (J : ℕ → Walk ℕ) (
 
 module _ (t : Tree) (i : ℕ) where
   -- so of `lower_expression` at a node: it answers the register given, and a register if the node is no literal
-  pub expression-into : (d : Register) (m : Made) → EndsWith d (lowerMaterializing (lowerExpression freeTemp t i) (Dest.To d) m)
+  pub expression-into : (d : Register) (m : Made) → OnlyAnswer d (lowerMaterializing (lowerExpression freeTemp t i) (Dest.To d) m)
   unfolding lowerExpression expressionBelow
   expression-into d m = materializing-into t (λ n e. expressionBelow freeTemp t i n e) (λ n. jumpBelow freeTemp t i n) i (node t i) d m
 
@@ -228,9 +228,9 @@ module _ (t : Tree) (i : ℕ) where
   expression-register l dest m = node-register t (λ n e. expressionBelow freeTemp t i n e) (λ n. jumpBelow freeTemp t i n) i (node t i) l dest m
 
 -- a value in the register asked for is answered by its register and found there again
-answered-again : (d : Register) (o : Outcome Register) → EndsWith d o →
+answered-again : (d : Register) (o : Outcome Register) → OnlyAnswer d o →
     bind (bind o (λ r. ret (Operand.Register d))) (λ src. materialized (source src) (Dest.To d)) ≡ o
-unfolding EndsWith bind source materialized
+unfolding OnlyAnswer bind source materialized
 answered-again d (ends r m) e = rw e
 answered-again d (stops f m) e = refl
 

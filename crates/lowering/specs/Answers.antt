@@ -17,17 +17,17 @@ use Rattle.runtime.specs.Function.{maxInstructions}
 use Rattle.lowering.specs.Tree.{treeOf, node}
 use Rattle.lowering.specs.Questions.{Verdict, passed, refused, questions}
 use Rattle.lowering.specs.Checked.{AllYes}
-use Rattle.lowering.specs.Walk.{Made, ends, stops, left}
+use Rattle.lowering.specs.Walk.{Made, ends, stops, madeOf}
 use Rattle.lowering.specs.Steps.{freeTemp}
 use Rattle.lowering.specs.Lower.{nameOf}
-use Rattle.lowering.specs.Result.{Lowered, result, leaves, begin, lowerRoot, Result}
+use Rattle.lowering.specs.Result.{Lowered, result, lowered, begin, lowerRoot, Result}
 use Rattle.lowering.specs.Meets.{Meets}
 use Rattle.lowering.specs.Trace.{Runs, Own, instructionsOf, constantsOf, JumpKind, marksOf}
 
 module _ (nodes : List ℕ) (root mode : ℕ) (list names code constants marks : List ℕ) where
   -- nothing made yet but the parameters' registers
-  abbrev pub start : Made
-  start = begin code constants marks 0 (length (words names))
+  abbrev pub nothingMade : Made
+  nothingMade = begin code constants marks 0 (length (words names))
 
   -- "Refusals 1 to 8 [..] write nothing": every word is as at entry, and both counts are 0
   pub record Untouched (l : Lowered) : Type 0 where
@@ -42,15 +42,15 @@ module _ (nodes : List ℕ) (root mode : ℕ) (list names code constants marks :
     pub error : Error
     pub made : Made
     -- what the walk comes to
-    pub is : lowerRoot freeTemp (treeOf nodes list names) mode root start ≡ stops error made
+    pub is : lowerRoot freeTemp (treeOf nodes list names) mode root nothingMade ≡ stops error made
     pub own : Own (treeOf nodes list names) root error made
-    pub shown : l ≡ leaves (result (refusalNumber (error .refusal)) (error .place) (error .start) (error .end) (instructionsOf made) (constantsOf made) 0 0) made
+    pub shown : l ≡ lowered (result (refusalNumber (error .refusal)) (error .place) (error .start) (error .end) (instructionsOf made) (constantsOf made) 0 0) made
 
   -- refusal e is due: every question before the walk is answered yes, and the walk stops with e
   pub record StopsWith (e : Error) : Type 0 where
     pub yes : AllYes nodes list names mode root
     pub made : Made
-    pub is : lowerRoot freeTemp (treeOf nodes list names) mode root start ≡ stops e made
+    pub is : lowerRoot freeTemp (treeOf nodes list names) mode root nothingMade ≡ stops e made
 
   -- the result has the four numbers of refusal e
   pub record Tells (r : Result) (e : Error) : Type 0 where
@@ -65,9 +65,9 @@ module _ (nodes : List ℕ) (root mode : ℕ) (list names code constants marks :
     pub place : ℕ
     pub made : Made
     -- what the walk comes to
-    pub is : lowerRoot freeTemp (treeOf nodes list names) mode root start ≡ ends place made
+    pub is : lowerRoot freeTemp (treeOf nodes list names) mode root nothingMade ≡ ends place made
     pub run : Runs (treeOf nodes list names) root ℕ
-        (lowerRoot freeTemp (treeOf nodes list names) mode root) start (ends place made)
+        (lowerRoot freeTemp (treeOf nodes list names) mode root) nothingMade (ends place made)
     -- 9: every name that the walk met is a parameter's
     pub declared : (i symbol : ℕ) → Meets (treeOf nodes list names) root i → node (treeOf nodes list names) i ≡ Node.Identifier symbol →
         (j : ℕ) × (j < length (words names)) × (getD (words names) j 0 ≡ symbol)
@@ -76,11 +76,11 @@ module _ (nodes : List ℕ) (root mode : ℕ) (list names code constants marks :
     -- 12: every key without a value is a name
     pub has-name : (i first count : ℕ) → Meets (treeOf nodes list names) root i → node (treeOf nodes list names) i ≡ Node.Map first count → (k : ℕ) → k < count →
         getD (words list) (first + 2 * k + 1) 0 ≡ absent → (name : ℕ) × (nameOf (node (treeOf nodes list names) (getD (words list) (first + 2 * k) 0)) ≡ some name)
-    pub shown : l ≡ leaves (result 0 place 0 0 (instructionsOf made) (constantsOf made) (made .state .registers .«frame_size») (length (words names))) made
+    pub shown : l ≡ lowered (result 0 place 0 0 (instructionsOf made) (constantsOf made) (made .state .registers .«frame_size») (length (words names))) made
 
   -- how many marks were made (the result does not say it); 0 if the walk did not start
   abbrev pub marksMade : Verdict → ℕ
-  marksMade passed = marksOf (left (lowerRoot freeTemp (treeOf nodes list names) mode root start))
+  marksMade passed = marksOf (madeOf (lowerRoot freeTemp (treeOf nodes list names) mode root nothingMade))
   marksMade (refused r place) = 0
 
   abbrev pub markCount : ℕ

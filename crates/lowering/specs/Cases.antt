@@ -25,8 +25,8 @@ unfoldable pub filled : ℕ → List ℕ → List ℕ
 filled n ws = ws ++ replicate (n - length ws) 9
 
 -- what lowering gives in a case
-unfoldable pub given : Case → Lowered
-given c = lower (bytesOf (c .nodes)) (c .root) (c .mode) (bytesOf (c .list)) (bytesOf (c .names)) (filled 32 []) (filled 12 []) (filled 2 [])
+unfoldable pub loweredCase : Case → Lowered
+loweredCase c = lower (bytesOf (c .nodes)) (c .root) (c .mode) (bytesOf (c .list)) (bytesOf (c .names)) (filled 32 []) (filled 12 []) (filled 2 [])
 
 -- and what the table says
 unfoldable pub wanted : Case → Lowered

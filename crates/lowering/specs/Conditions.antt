@@ -9,7 +9,7 @@ use mathlib.Core.Option.{some}
 use lib.ListN.{length}
 use Rattle.lowering.specs.Tree.{Tree, treeOf, node}
 use Rattle.lowering.specs.Result.{Lowered, JumpPatched, lower, patchJump}
-use Rattle.lowering.specs.Meaning.{Operators, Hypotheses, Worth, worth, fails, undefined, tests, worthAt, OrderPremise, ConditionPremise, AtRoot, Reaches, Plain, sizeAt}
+use Rattle.lowering.specs.Meaning.{Operators, Hypotheses, Evaluation, evaluates, fails, undefined, tests, valueAt, OrderPremise, ConditionPremise, AtRoot, Reaches, Plain, sizeAt}
 use Rattle.lowering.specs.Machine.{target, fetch, constantAt, failed, Registers, Now, at, ended, after}
 
 -- "Modes: [..] 1 jump if false, 2 jump if true": by the outcome of the test at which it jumps
@@ -36,27 +36,27 @@ pub record Goal (jump : ℕ) : Type 0 where
 
 module _ (sense : Bool) (t : Tree) (root : ℕ) (x : Lowered) where
   -- the place after the code
-  abbrev pub behind : ℕ
-  behind = x .result .instructions
+  abbrev pub codeEnd : ℕ
+  codeEnd = x .result .instructions
 
   -- the code with its jump patched
   abbrev pub patchedTo : Goal (x .result .place) → JumpPatched
-  patchedTo g = patchJump (x .code) behind (x .result .place) (g .offset)
+  patchedTo g = patchJump (x .code) codeEnd (x .result .place) (g .offset)
 
   -- what the tree's value tests as: a boolean, the tree's failure, or the test's
-  abbrev pub testOf : (s : Entry sense t root) → Worth (s .operators .Failure) Bool
-  testOf s = tests (s .operators) (worthAt (s .operators) t (s .parameters) root)
+  abbrev pub testOf : (s : Entry sense t root) → Evaluation (s .operators .Failure) Bool
+  testOf s = tests (s .operators) (valueAt (s .operators) t (s .parameters) root)
 
   module _ (g : Goal (x .result .place)) (s : Entry sense t root) where
     -- the run from place 0, after n steps
     abbrev pub runTo : ℕ → Now (s .operators)
     runTo n =
-        after (s .operators) (constantAt (s .operators) (x .constants) (x .result .constants)) (fetch (patchedTo g .code) behind) n
+        after (s .operators) (constantAt (s .operators) (x .constants) (x .result .constants)) (fetch (patchedTo g .code) codeEnd) n
         (at 0 (s .registers))
 
     -- where a run is left: at the goal where the tree's value tests as `sense`, after the code where it tests the other way; ended, with the failure
-    abbrev pub LeftBy : Worth (s .operators .Failure) Bool → Now (s .operators) → Type 0
-    LeftBy (worth b) now = (R : Registers (s .operators)) × (now ≡ at (cond (Bool·beq b sense) (g .place) behind) R)
+    abbrev pub LeftBy : Evaluation (s .operators .Failure) Bool → Now (s .operators) → Type 0
+    LeftBy (evaluates b) now = (R : Registers (s .operators)) × (now ≡ at (cond (Bool·beq b sense) (g .place) codeEnd) R)
     LeftBy (fails y) now = now ≡ ended (failed y)
     LeftBy undefined now = ⊥
 
@@ -64,31 +64,31 @@ module _ (sense : Bool) (t : Tree) (root : ℕ) (x : Lowered) where
     -- keeps its value at each step"
     pub record UpTo (n : ℕ) : Type 0 where
       pub left : LeftBy (testOf s) (runTo n)
-      pub by-jump : (b : Bool) → testOf s ≡ worth b → (k : ℕ) × (P : Registers (s .operators)) × (n ≡ k + 1) × (runTo k ≡ at (x .result .place) P)
-      pub steps : n ≤ behind
-      pub inside : (k : ℕ) → k < n → (p : ℕ) × (P : Registers (s .operators)) × (runTo k ≡ at p P) × (p < behind)
+      pub by-jump : (b : Bool) → testOf s ≡ evaluates b → (k : ℕ) × (P : Registers (s .operators)) × (n ≡ k + 1) × (runTo k ≡ at (x .result .place) P)
+      pub steps : n ≤ codeEnd
+      pub inside : (k : ℕ) → k < n → (p : ℕ) × (P : Registers (s .operators)) × (runTo k ≡ at p P) × (p < codeEnd)
       pub once : (j k p q : ℕ) (P Q : Registers (s .operators)) → j < k → k < n → runTo j ≡ at p P → runTo k ≡ at q Q → p < q
       pub parameters : (k p : ℕ) (P : Registers (s .operators)) → k ≤ n → runTo k ≡ at p P → (r : ℕ) → r < length (t .names) → P r ≡ s .parameters r
 
     -- the run comes to the goal exactly when the tree's value tests as `sense`, to the place after the code exactly when it tests the other way, and ends with a failure
     -- exactly when that is the tree's or the test's; once and parameters at every step
     pub record Exactly : Type 0 where
-      pub to-goal : (testOf s ≡ worth sense) ↔ ((n : ℕ) × (R : Registers (s .operators)) × (runTo n ≡ at (g .place) R))
-      pub to-behind : (testOf s ≡ worth (not sense)) ↔ ((n : ℕ) × (R : Registers (s .operators)) × (runTo n ≡ at behind R))
+      pub to-goal : (testOf s ≡ evaluates sense) ↔ ((n : ℕ) × (R : Registers (s .operators)) × (runTo n ≡ at (g .place) R))
+      pub to-behind : (testOf s ≡ evaluates (not sense)) ↔ ((n : ℕ) × (R : Registers (s .operators)) × (runTo n ≡ at codeEnd R))
       pub fails-alike : (y : s .operators .Failure) → (testOf s ≡ fails y) ↔ ((n : ℕ) × (runTo n ≡ ended (failed y)))
       pub once : (j k p q : ℕ) (P Q : Registers (s .operators)) → j < k → runTo j ≡ at p P → runTo k ≡ at q Q → p < q
       pub parameters : (k p : ℕ) (P : Registers (s .operators)) → runTo k ≡ at p P → (r : ℕ) → r < length (t .names) → P r ≡ s .parameters r
 
   pub record ConditionOf : Type 1 where
     -- the jump is the last instruction, and any patch of it is accepted
-    pub last : behind ≡ x .result .place + 1
+    pub last : codeEnd ≡ x .result .place + 1
     pub patchable : (g : Goal (x .result .place)) → patchedTo g .number ≡ 0
     -- whatever the goal, also one inside of the code
     pub runs : (g : Goal (x .result .place)) (s : Entry sense t root) → (n : ℕ) × UpTo g s n
     -- for a goal past the place after the code, so that the machine cannot come to it in any other way
-    pub exactly : (g : Goal (x .result .place)) (s : Entry sense t root) → behind < g .place → Exactly g s
-    pub short : behind ≤ sizeAt t root + 1
-    pub defined : (M : Operators) (values : ℕ → M .Value) → worthAt M t values root ≢ undefined
+    pub exactly : (g : Goal (x .result .place)) (s : Entry sense t root) → codeEnd < g .place → Exactly g s
+    pub short : codeEnd ≤ sizeAt t root + 1
+    pub defined : (M : Operators) (values : ℕ → M .Value) → valueAt M t values root ≢ undefined
 
 -- For every tree without calls and maps that `lower` accepts in mode 1 (2), whatever the buffers.
 abbrev pub ConditionLaw : Type 1

@@ -86,15 +86,15 @@ ruleRun x rest n =
 -- ---- one jump
 
 -- what is left by a rule whose code is one jump, at place 0; the place after the code is 1
-abbrev pub alone : List ℕ → Lowered
-alone code = record { result = result 0 0 0 0 1 0 2 2; code = code; constants = []; marks = [] }
+abbrev pub oneJump : List ℕ → Lowered
+oneJump code = record { result = result 0 0 0 0 1 0 2 2; code = code; constants = []; marks = [] }
 
 -- x, and x < y: parameters 7 and 8
-abbrev pub name : Tree
-name = record { nodes = 4 ∷ 7 ∷ 0 ∷ 0 ∷ 0 ∷ 0 ∷ []; list = []; names = 7 ∷ 8 ∷ [] }
+abbrev pub oneName : Tree
+oneName = record { nodes = 4 ∷ 7 ∷ 0 ∷ 0 ∷ 0 ∷ 0 ∷ []; list = []; names = 7 ∷ 8 ∷ [] }
 
-abbrev pub order : Tree
-order = record { nodes = 4 ∷ 7 ∷ 0 ∷ 0 ∷ 0 ∷ 0 ∷ 4 ∷ 8 ∷ 0 ∷ 0 ∷ 0 ∷ 0 ∷ 5 ∷ 9 ∷ 0 ∷ 1 ∷ 0 ∷ 0 ∷ []; list = []; names = 7 ∷ 8 ∷ [] }
+abbrev pub lessOfNames : Tree
+lessOfNames = record { nodes = 4 ∷ 7 ∷ 0 ∷ 0 ∷ 0 ∷ 0 ∷ 4 ∷ 8 ∷ 0 ∷ 0 ∷ 0 ∷ 0 ∷ 5 ∷ 9 ∷ 0 ∷ 1 ∷ 0 ∷ 0 ∷ []; list = []; names = 7 ∷ 8 ∷ [] }
 
 -- ---- what is left of the worked page, as `Cases` has it, in buffers whose words are 9
 
@@ -168,8 +168,8 @@ jumpReturn = 41 ∷ 0 ∷ 0 ∷ 0 ∷ 40 ∷ 1 ∷ 0 ∷ 0 ∷ []
 
 -- ---- a walk that takes register 1 for a literal, whatever is free: node 0 of a tree of no words reads as the number 0
 
-abbrev pub literal : Tree
-literal = record { nodes = []; list = []; names = [] }
+abbrev pub noWords : Tree
+noWords = record { nodes = []; list = []; names = [] }
 
 abbrev pub takesOne : ℕ → Dest → Walk Operand
 takesOne i dest m = ends (Operand.Register (Register.Temp 1)) (withRegisters (without (registersOf m) 1) m)

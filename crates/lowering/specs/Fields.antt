@@ -88,15 +88,15 @@ fields =
     []
 
 -- the field in word k + 1 of an instruction of a kind
-abbrev pub fieldOf : ℕ → ℕ → Field
-fieldOf kind k = getD (getD fields kind []) k unused
+abbrev pub fieldAt : ℕ → ℕ → Field
+fieldAt kind k = getD (getD fields kind []) k unused
 
 -- four words fit the fields of their kind
 abbrev pub Narrow : ℕ → List ℕ → Type 0
 Narrow top ws =
-    (getD ws 1 0 < limit top (fieldOf (getD ws 0 0) 0)) ×
-    (getD ws 2 0 < limit top (fieldOf (getD ws 0 0) 1)) ×
-    (getD ws 3 0 < limit top (fieldOf (getD ws 0 0) 2))
+    (getD ws 1 0 < limit top (fieldAt (getD ws 0 0) 0)) ×
+    (getD ws 2 0 < limit top (fieldAt (getD ws 0 0) 1)) ×
+    (getD ws 3 0 < limit top (fieldAt (getD ws 0 0) 2))
 
 -- the four words of instruction p
 abbrev pub wordsAt : List ℕ → ℕ → List ℕ

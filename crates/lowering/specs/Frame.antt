@@ -9,21 +9,21 @@ use Rattle.words.specs.Words.{words}
 use Rattle.environment.specs.declared.RegisterSet.{RegisterSet}
 use Rattle.environment.specs.Registers.{registerCount, held}
 use Rattle.lowering.specs.Tree.{Tree, treeOf}
-use Rattle.lowering.specs.Walk.{Made, Outcome, ends, Walk, left}
+use Rattle.lowering.specs.Walk.{Made, Outcome, ends, Walk, madeOf}
 use Rattle.lowering.specs.Steps.{freeTemp}
 use Rattle.lowering.specs.Lower.{lowerExpression, lowerJumpIfFalse}
 use Rattle.lowering.specs.Smallest.{SmallestFirst}
 use Rattle.lowering.specs.Result.{Lowered, lowerRoot}
-use Rattle.lowering.specs.Trace.{Runs, step, returns, follows, halts, reads, counts, takes, gives, leaves, emits, finds, pools, patches, marks, moves, refuses, registersOf, Held, Free}
-use Rattle.lowering.specs.Answers.{start}
+use Rattle.lowering.specs.Trace.{Runs, step, returns, follows, halts, reads, counts, takes, gives, keeps, emits, finds, pools, patches, marks, moves, refuses, registersOf, Held, Free}
+use Rattle.lowering.specs.Answers.{nothingMade}
 
 -- how many of the first n registers are held
-unfoldable pub heldBelow : RegisterSet → ℕ → ℕ
-heldBelow s zero = 0
-heldBelow s (suc n) = cond (held s n) 1 0 + heldBelow s n
+unfoldable pub heldAmongFirst : RegisterSet → ℕ → ℕ
+heldAmongFirst s zero = 0
+heldAmongFirst s (suc n) = cond (held s n) 1 0 + heldAmongFirst s n
 
 abbrev pub heldCount : Made → ℕ
-heldCount m = heldBelow (registersOf m) registerCount
+heldCount m = heldAmongFirst (registersOf m) registerCount
 
 abbrev pub frameOf : Made → ℕ
 frameOf m = registersOf m .«frame_size»
@@ -41,7 +41,7 @@ module _ {t : Tree} {root : ℕ} where
   unfoldable pub highest : {A : Type 0} {w : Walk A} {m : Made} {o : Outcome A} → Runs t root A w m o → ℕ
   highest (step (takes {r = r} k)) = r + 1
   highest (step (gives r h)) = 0
-  highest (step (leaves r)) = 0
+  highest (step (keeps r)) = 0
   highest (step (emits i f l h)) = 0
   highest (step (finds c l e f)) = 0
   highest (step (pools o f h)) = 0
@@ -57,7 +57,7 @@ module _ {t : Tree} {root : ℕ} where
 
   -- the most registers held at one moment of a run, its start and end among them
   unfoldable pub mostHeld : {A : Type 0} {w : Walk A} {m : Made} {o : Outcome A} → Runs t root A w m o → ℕ
-  mostHeld {m = m} {o = o} (step s) = max (heldCount m) (heldCount (left o))
+  mostHeld {m = m} {o = o} (step s) = max (heldCount m) (heldCount (madeOf o))
   mostHeld (returns {m = m}) = heldCount m
   mostHeld (follows k a b) = max (mostHeld a) (mostHeld b)
   mostHeld (halts k a) = mostHeld a
@@ -69,7 +69,7 @@ module _ {t : Tree} {root : ℕ} where
     abbrev pub Every : {A : Type 0} {w : Walk A} {m : Made} {o : Outcome A} → Runs t root A w m o → Type 0
     Every (step (takes {m = m} {s = s} {r = r} k)) = T m r s
     Every (step (gives {m = m} r h)) = G m r
-    Every (step (leaves r)) = Unit {0}
+    Every (step (keeps r)) = Unit {0}
     Every (step (emits i f l h)) = Unit {0}
     Every (step (finds c l e f)) = Unit {0}
     Every (step (pools o f h)) = Unit {0}
@@ -91,8 +91,8 @@ module _ (nodes : List ℕ) (root mode : ℕ) (list names code constants marks :
     pub answer : ℕ
     pub made : Made
     -- what the walk comes to
-    pub is : lowerRoot freeTemp (treeOf nodes list names) mode root (start nodes root mode list names code constants marks) ≡ ends answer made
-    pub run : Runs (treeOf nodes list names) root ℕ (lowerRoot freeTemp (treeOf nodes list names) mode root) (start nodes root mode list names code constants marks) (ends answer made)
+    pub is : lowerRoot freeTemp (treeOf nodes list names) mode root (nothingMade nodes root mode list names code constants marks) ≡ ends answer made
+    pub run : Runs (treeOf nodes list names) root ℕ (lowerRoot freeTemp (treeOf nodes list names) mode root) (nothingMade nodes root mode list names code constants marks) (ends answer made)
     -- every register that the walk of this tree takes is the smallest free one
     pub smallest-first : SmallestFirst (treeOf nodes list names) (lowerExpression freeTemp (treeOf nodes list names)) (lowerJumpIfFalse freeTemp (treeOf nodes list names))
     pub below-frame : (r : ℕ) → Held made r → r < frameOf made

@@ -16,34 +16,34 @@ pub data Datum : Type 0 where
 pub data Mismatch : Type 0 where
   mismatch : Mismatch
 
-unfoldable pub changed : Unary → Datum → Answer Mismatch Datum
-changed negate (number x) = val (number (neg x))
-changed negate (string s) = fail mismatch
-changed negate (boolean b) = fail mismatch
-changed negate nil = fail mismatch
-changed deref v = fail mismatch
-changed invert (number x) = fail mismatch
-changed invert (string s) = fail mismatch
-changed invert (boolean b) = val (boolean (not b))
-changed invert nil = fail mismatch
+unfoldable pub ieeeUnary : Unary → Datum → Answer Mismatch Datum
+ieeeUnary negate (number x) = val (number (neg x))
+ieeeUnary negate (string s) = fail mismatch
+ieeeUnary negate (boolean b) = fail mismatch
+ieeeUnary negate nil = fail mismatch
+ieeeUnary deref v = fail mismatch
+ieeeUnary invert (number x) = fail mismatch
+ieeeUnary invert (string s) = fail mismatch
+ieeeUnary invert (boolean b) = val (boolean (not b))
+ieeeUnary invert nil = fail mismatch
 
 -- both numbers, or a mismatch
-unfoldable pub numbers : {A : Type 0} → (Float → Float → A) → Datum → Datum → Answer Mismatch A
-numbers f (number x) (number y) = val (f x y)
-numbers f (number x) (string t) = fail mismatch
-numbers f (number x) (boolean c) = fail mismatch
-numbers f (number x) nil = fail mismatch
-numbers f (string s) v = fail mismatch
-numbers f (boolean b) v = fail mismatch
-numbers f nil v = fail mismatch
+unfoldable pub onNumbers : {A : Type 0} → (Float → Float → A) → Datum → Datum → Answer Mismatch A
+onNumbers f (number x) (number y) = val (f x y)
+onNumbers f (number x) (string t) = fail mismatch
+onNumbers f (number x) (boolean c) = fail mismatch
+onNumbers f (number x) nil = fail mismatch
+onNumbers f (string s) v = fail mismatch
+onNumbers f (boolean b) v = fail mismatch
+onNumbers f nil v = fail mismatch
 
-unfoldable pub combined : Binary → Datum → Datum → Answer Mismatch Datum
-combined Binary.add a b = numbers (λ x y. number (add binary64 x y)) a b
-combined subtract a b = numbers (λ x y. number (sub binary64 x y)) a b
-combined multiply a b = numbers (λ x y. number (mul binary64 x y)) a b
-combined divide a b = numbers (λ x y. number (div binary64 x y)) a b
-combined modulo a b = numbers (λ x y. number (rem binary64 x y)) a b
-combined property a b = fail mismatch
+unfoldable pub ieeeBinary : Binary → Datum → Datum → Answer Mismatch Datum
+ieeeBinary Binary.add a b = onNumbers (λ x y. number (add binary64 x y)) a b
+ieeeBinary subtract a b = onNumbers (λ x y. number (sub binary64 x y)) a b
+ieeeBinary multiply a b = onNumbers (λ x y. number (mul binary64 x y)) a b
+ieeeBinary divide a b = onNumbers (λ x y. number (div binary64 x y)) a b
+ieeeBinary modulo a b = onNumbers (λ x y. number (rem binary64 x y)) a b
+ieeeBinary property a b = fail mismatch
 
 -- numbers are compared as IEEE 754 does; values of different kinds are not equal
 unfoldable pub alike : Datum → Datum → Bool
@@ -64,17 +64,17 @@ alike nil (string t) = false
 alike nil (boolean c) = false
 alike nil nil = true
 
-unfoldable pub compared : Compare → Datum → Datum → Answer Mismatch Bool
-compared equal a b = val (alike a b)
-compared unequal a b = val (not (alike a b))
-compared less a b = numbers lt a b
-compared lessEqual a b = numbers le a b
+unfoldable pub ieeeCompare : Compare → Datum → Datum → Answer Mismatch Bool
+ieeeCompare equal a b = val (alike a b)
+ieeeCompare unequal a b = val (not (alike a b))
+ieeeCompare less a b = onNumbers lt a b
+ieeeCompare lessEqual a b = onNumbers le a b
 
-unfoldable pub truthful : Datum → Answer Mismatch Bool
-truthful (number x) = fail mismatch
-truthful (string s) = fail mismatch
-truthful (boolean b) = val b
-truthful nil = fail mismatch
+unfoldable pub ieeeTest : Datum → Answer Mismatch Bool
+ieeeTest (number x) = fail mismatch
+ieeeTest (string s) = fail mismatch
+ieeeTest (boolean b) = val b
+ieeeTest nil = fail mismatch
 
 abbrev pub ieee : Operators
 ieee = record {
@@ -84,10 +84,10 @@ ieee = record {
   string = string;
   boolean = boolean;
   nil = nil;
-  unary = changed;
-  binary = combined;
-  compare = compared;
-  test = truthful;
+  unary = ieeeUnary;
+  binary = ieeeBinary;
+  compare = ieeeCompare;
+  test = ieeeTest;
 }
 
 abbrev pub unfailing : Operators

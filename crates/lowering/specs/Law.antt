@@ -13,8 +13,8 @@ use Rattle.lowering.specs.Tree.{Tree, treeOf, node}
 use Rattle.lowering.specs.Questions.{maxParameters}
 use Rattle.lowering.specs.Walk.{Made, ends}
 use Rattle.lowering.specs.Steps.{freeTemp}
-use Rattle.lowering.specs.Result.{Lowered, begin, lowerRoot, lower, result, leaves}
-use Rattle.lowering.specs.Meaning.{Operators, Hypotheses, Worth, worth, fails, undefined, worthAt, OrderPremise, Reaches, Plain, sizeAt}
+use Rattle.lowering.specs.Result.{Lowered, begin, lowerRoot, lower, result, lowered}
+use Rattle.lowering.specs.Meaning.{Operators, Hypotheses, Evaluation, evaluates, fails, undefined, valueAt, OrderPremise, Reaches, Plain, sizeAt}
 use Rattle.lowering.specs.Machine.{fetch, constantAt, returned, failed, lost, Registers, Now, at, ended, after}
 
 -- A tree without calls and maps, of at most 256 parameters, that lowering accepts in value mode: from any words in the three buffers, and
@@ -65,25 +65,25 @@ module _ (a : Accepted) (s : Setting a) where
   ran n = after (s .operators) (constantAt (s .operators) (s .pool) (s .pooled)) (fetch (s .code) (s .count)) n (at (s .base) (s .registers))
 
   -- the value of the tree, or its failure
-  abbrev pub treeWorth : Worth (s .operators .Failure) (s .operators .Value)
-  treeWorth = worthAt (s .operators) (a .tree) (s .parameters) (a .root)
+  abbrev pub treeValue : Evaluation (s .operators .Failure) (s .operators .Value)
+  treeValue = valueAt (s .operators) (a .tree) (s .parameters) (a .root)
 
 -- the machine has ended with the value of a tree, or with its failure
-abbrev pub EndsWith : (M : Operators) → Worth (M .Failure) (M .Value) → Now M → Type 0
-EndsWith M (worth v) now = now ≡ ended (returned v)
+abbrev pub EndsWith : (M : Operators) → Evaluation (M .Failure) (M .Value) → Now M → Type 0
+EndsWith M (evaluates v) now = now ≡ ended (returned v)
 EndsWith M (fails x) now = now ≡ ended (failed x)
 EndsWith M undefined now = ⊥
 
 -- "running its code returns the tree's value exactly when the tree has one, and otherwise ends with the tree's failure": in at most as many
 -- steps as there are instructions
-abbrev pub Runs : Type 1
-Runs = (a : Accepted) (s : Setting a) → (n : ℕ) × (n ≤ instructions a) × EndsWith (s .operators) (treeWorth a s) (ran a s n)
+abbrev pub EndsWithValue : Type 1
+EndsWithValue = (a : Accepted) (s : Setting a) → (n : ℕ) × (n ≤ instructions a) × EndsWith (s .operators) (treeValue a s) (ran a s n)
 
 -- "exactly when", read both ways, of values and of failures; and at no step has the run ended with neither
-abbrev pub Exactly : Type 1
-Exactly = (a : Accepted) (s : Setting a) →
-    ((v : s .operators .Value) → (treeWorth a s ≡ worth v) ↔ ((n : ℕ) × (ran a s n ≡ ended (returned v))))
-    × ((x : s .operators .Failure) → (treeWorth a s ≡ fails x) ↔ ((n : ℕ) × (ran a s n ≡ ended (failed x))))
+abbrev pub ValueExactly : Type 1
+ValueExactly = (a : Accepted) (s : Setting a) →
+    ((v : s .operators .Value) → (treeValue a s ≡ evaluates v) ↔ ((n : ℕ) × (ran a s n ≡ ended (returned v))))
+    × ((x : s .operators .Failure) → (treeValue a s ≡ fails x) ↔ ((n : ℕ) × (ran a s n ≡ ended (failed x))))
     × ((n : ℕ) → ran a s n ≢ ended lost)
 
 -- "no instruction runs twice": the places strictly increase
@@ -100,7 +100,7 @@ Length = (a : Accepted) → instructions a ≤ sizeAt (a .tree) (a .root) + 1
 
 -- no accepted tree is undefined, whatever the operators
 abbrev pub Defined : Type 1
-Defined = (a : Accepted) (M : Operators) (parameters : ℕ → M .Value) → worthAt M (a .tree) parameters (a .root) ≢ undefined
+Defined = (a : Accepted) (M : Operators) (parameters : ℕ → M .Value) → valueAt M (a .tree) parameters (a .root) ≢ undefined
 
 -- ---- the same of `lower`, of the words and counts that it leaves, run from place 0
 
@@ -119,19 +119,19 @@ module _ (t : Tree) (root : ℕ) (x : Lowered) where
       after (s .operators) (constantAt (s .operators) (x .constants) (x .result .constants)) (fetch (x .code) (x .result .instructions)) n
       (at 0 (s .registers))
 
-  abbrev pub worthOf : (s : Start t root) → Worth (s .operators .Failure) (s .operators .Value)
-  worthOf s = worthAt (s .operators) t (s .parameters) root
+  abbrev pub rootValue : (s : Start t root) → Evaluation (s .operators .Failure) (s .operators .Value)
+  rootValue s = valueAt (s .operators) t (s .parameters) root
 
   -- the law, sentence by sentence, of what is left in the buffers
   pub record LawOf : Type 1 where
-    pub runs : (s : Start t root) → (n : ℕ) × (n ≤ x .result .instructions) × EndsWith (s .operators) (worthOf s) (runOf s n)
-    pub returns : (s : Start t root) (v : s .operators .Value) → (worthOf s ≡ worth v) ↔ ((n : ℕ) × (runOf s n ≡ ended (returned v)))
-    pub fails-alike : (s : Start t root) (y : s .operators .Failure) → (worthOf s ≡ fails y) ↔ ((n : ℕ) × (runOf s n ≡ ended (failed y)))
+    pub runs : (s : Start t root) → (n : ℕ) × (n ≤ x .result .instructions) × EndsWith (s .operators) (rootValue s) (runOf s n)
+    pub returns : (s : Start t root) (v : s .operators .Value) → (rootValue s ≡ evaluates v) ↔ ((n : ℕ) × (runOf s n ≡ ended (returned v)))
+    pub fails-alike : (s : Start t root) (y : s .operators .Failure) → (rootValue s ≡ fails y) ↔ ((n : ℕ) × (runOf s n ≡ ended (failed y)))
     pub never-lost : (s : Start t root) (n : ℕ) → runOf s n ≢ ended lost
     pub once : (s : Start t root) (j k p q : ℕ) (P Q : Registers (s .operators)) → j < k → runOf s j ≡ at p P → runOf s k ≡ at q Q → p < q
     pub parameters : (s : Start t root) (k p : ℕ) (P : Registers (s .operators)) → runOf s k ≡ at p P → (r : ℕ) → r < length (t .names) → P r ≡ s .parameters r
     pub short : x .result .instructions ≤ sizeAt t root + 1
-    pub defined : (M : Operators) (values : ℕ → M .Value) → worthAt M t values root ≢ undefined
+    pub defined : (M : Operators) (values : ℕ → M .Value) → valueAt M t values root ≢ undefined
 
 -- For every tree without calls and maps that `lower` accepts in value mode, whatever the buffers.
 abbrev pub RunningLaw : Type 1
@@ -142,5 +142,5 @@ RunningLaw = (nodes list names : List ℕ) (root : ℕ) (code constants marks : 
 
 module _ (a : Accepted) where
   -- what an accepted walk leaves, as `lower` shows it
-  abbrev pub alone : Lowered
-  alone = leaves (result 0 (a .answer) 0 0 (instructions a) (a .left .state .constants) (a .left .state .registers .«frame_size») (arity a)) (a .left)
+  abbrev pub asLowered : Lowered
+  asLowered = lowered (result 0 (a .answer) 0 0 (instructions a) (a .left .state .constants) (a .left .state .registers .«frame_size») (arity a)) (a .left)

@@ -85,9 +85,9 @@ module _ (t : Tree) where
         emit (Instruction.Move (regOf d) (regOf r))
         ret (Operand.Register d)
 
-  unfoldable pub named : ℕ → Found → Dest → Walk Operand
-  named i (Found.At r) dest = moved r dest
-  named i (Found.Refused refusal) dest = refuse refusal i
+  unfoldable pub lowerName : ℕ → Found → Dest → Walk Operand
+  lowerName i (Found.At r) dest = moved r dest
+  lowerName i (Found.Refused refusal) dest = refuse refusal i
 
   module _ (E : ℕ → Dest → Walk Operand) where
     -- "argument i is aimed at local i and the last instruction so far is marked": n arguments from argument k on, of the call at node i
@@ -158,8 +158,8 @@ module _ (t : Tree) where
     lowerTail tail d = cond (eqb tail absent) (loadConstant Operand.Nil (Dest.To d)) (lowerMaterializing (E tail) (Dest.To d))
 
     -- "A comparison of two literals, and anything else, is materialized and tested": own is the condition's own `lower_expression`
-    unfoldable pub tested : Bool → (Dest → Walk Operand) → Walk ℕ
-    tested sense own = do
+    unfoldable pub test : Bool → (Dest → Walk Operand) → Walk ℕ
+    test sense own = do
       src ← lowerMaterializing own Dest.Any
       emit (jumpIf sense (regOf src))
 
@@ -172,32 +172,32 @@ module _ (t : Tree) where
     fusedSources sense own c (constant a) (register src2) = do
       src1 ← store a
       emit (jumpKR sense c src1 (regOf src2))
-    fusedSources sense own c (constant a) (constant b) = tested sense own
+    fusedSources sense own c (constant a) (constant b) = test sense own
 
-    unfoldable pub fused : Bool → (Dest → Walk Operand) → Option Comparison → ℕ → ℕ → Walk ℕ
-    fused sense own none left right = tested sense own
-    fused sense own (some c) left right = do
+    unfoldable pub fuse : Bool → (Dest → Walk Operand) → Option Comparison → ℕ → ℕ → Walk ℕ
+    fuse sense own none left right = test sense own
+    fuse sense own (some c) left right = do
       a ← E left Dest.Any
       b ← E right Dest.Any
       fusedSources sense own c (source a) (source b)
 
     -- `lower_jump_if_false` and `lower_jump_if_true` of a node, by the outcome of the test at which they jump
     unfoldable pub jumpNode : Bool → (Dest → Walk Operand) → Node → Walk ℕ
-    jumpNode sense own (Node.Number low high) = tested sense own
-    jumpNode sense own (Node.String symbol) = tested sense own
-    jumpNode sense own (Node.Boolean b) = tested sense own
-    jumpNode sense own Node.Nil = tested sense own
-    jumpNode sense own (Node.Identifier symbol) = tested sense own
-    jumpNode sense own (Node.Binary operator left right) = fused sense own (comparison operator) left right
-    jumpNode sense own (Node.Unary operator operand) = tested sense own
-    jumpNode sense own (Node.LogicalNot operand) = tested sense own
-    jumpNode sense own (Node.LogicalAnd left right) = tested sense own
-    jumpNode sense own (Node.LogicalOr left right) = tested sense own
-    jumpNode sense own (Node.If condition thenBranch elseBranch) = tested sense own
-    jumpNode sense own (Node.Block tail) = tested sense own
-    jumpNode sense own (Node.FunctionCall callee first count) = tested sense own
-    jumpNode sense own (Node.PropertyAccess object property) = tested sense own
-    jumpNode sense own (Node.Map first count) = tested sense own
+    jumpNode sense own (Node.Number low high) = test sense own
+    jumpNode sense own (Node.String symbol) = test sense own
+    jumpNode sense own (Node.Boolean b) = test sense own
+    jumpNode sense own Node.Nil = test sense own
+    jumpNode sense own (Node.Identifier symbol) = test sense own
+    jumpNode sense own (Node.Binary operator left right) = fuse sense own (comparison operator) left right
+    jumpNode sense own (Node.Unary operator operand) = test sense own
+    jumpNode sense own (Node.LogicalNot operand) = test sense own
+    jumpNode sense own (Node.LogicalAnd left right) = test sense own
+    jumpNode sense own (Node.LogicalOr left right) = test sense own
+    jumpNode sense own (Node.If condition thenBranch elseBranch) = test sense own
+    jumpNode sense own (Node.Block tail) = test sense own
+    jumpNode sense own (Node.FunctionCall callee first count) = test sense own
+    jumpNode sense own (Node.PropertyAccess object property) = test sense own
+    jumpNode sense own (Node.Map first count) = test sense own
 
 -- The clauses that give registers back, and the walk that they make. `giveBack` is `freeTemp` in lowering, and `freeHeld` in the law that only held
 -- registers are given back.
@@ -234,7 +234,7 @@ module _ (giveBack : Register → Walk Unit) (t : Tree) where
     lowerNode J i (Node.String symbol) dest = ret (Operand.String symbol)
     lowerNode J i (Node.Boolean b) dest = ret (Operand.Boolean b)
     lowerNode J i Node.Nil dest = ret Operand.Nil
-    lowerNode J i (Node.Identifier symbol) dest = named t i (lookup (t .names) (length (t .names)) symbol) dest
+    lowerNode J i (Node.Identifier symbol) dest = lowerName t i (lookup (t .names) (length (t .names)) symbol) dest
     -- "Binary: destination first, left, right"
     lowerNode J i (Node.Binary operator left right) dest = do
       d ← destination dest

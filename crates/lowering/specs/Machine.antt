@@ -30,7 +30,7 @@ pub data Action : Type 0 where
   -- "JumpIfFalse and JumpIfTrue test a register and jump on false or on true"
   jumpOn : Bool → Input → ℕ → Action
   -- "a fused jump compares and jumps on true"
-  jumpIf : Compare → Input → Input → ℕ → Action
+  compareJump : Compare → Input → Input → ℕ → Action
   -- "Return ends the run with its register's value"
   return : ℕ → Action
   -- any other instruction
@@ -82,16 +82,16 @@ action (Instruction.Return src) = return src
 action (Instruction.Jump offset) = jump offset
 action (Instruction.JumpIfFalse src offset) = jumpOn false (register src) offset
 action (Instruction.JumpIfTrue src offset) = jumpOn true (register src) offset
-action (Instruction.JumpIfLess src1 src2 offset) = jumpIf less (register src1) (register src2) offset
-action (Instruction.JumpIfLessRK src1 src2 offset) = jumpIf less (register src1) (pooled src2) offset
-action (Instruction.JumpIfLessKR src2 src1 offset) = jumpIf less (pooled src1) (register src2) offset
-action (Instruction.JumpIfLessEqual src1 src2 offset) = jumpIf lessEqual (register src1) (register src2) offset
-action (Instruction.JumpIfLessEqualRK src1 src2 offset) = jumpIf lessEqual (register src1) (pooled src2) offset
-action (Instruction.JumpIfLessEqualKR src2 src1 offset) = jumpIf lessEqual (pooled src1) (register src2) offset
-action (Instruction.JumpIfEqual src1 src2 offset) = jumpIf equal (register src1) (register src2) offset
-action (Instruction.JumpIfEqualK src1 src2 offset) = jumpIf equal (register src1) (pooled src2) offset
-action (Instruction.JumpIfNotEqual src1 src2 offset) = jumpIf unequal (register src1) (register src2) offset
-action (Instruction.JumpIfNotEqualK src1 src2 offset) = jumpIf unequal (register src1) (pooled src2) offset
+action (Instruction.JumpIfLess src1 src2 offset) = compareJump less (register src1) (register src2) offset
+action (Instruction.JumpIfLessRK src1 src2 offset) = compareJump less (register src1) (pooled src2) offset
+action (Instruction.JumpIfLessKR src2 src1 offset) = compareJump less (pooled src1) (register src2) offset
+action (Instruction.JumpIfLessEqual src1 src2 offset) = compareJump lessEqual (register src1) (register src2) offset
+action (Instruction.JumpIfLessEqualRK src1 src2 offset) = compareJump lessEqual (register src1) (pooled src2) offset
+action (Instruction.JumpIfLessEqualKR src2 src1 offset) = compareJump lessEqual (pooled src1) (register src2) offset
+action (Instruction.JumpIfEqual src1 src2 offset) = compareJump equal (register src1) (register src2) offset
+action (Instruction.JumpIfEqualK src1 src2 offset) = compareJump equal (register src1) (pooled src2) offset
+action (Instruction.JumpIfNotEqual src1 src2 offset) = compareJump unequal (register src1) (register src2) offset
+action (Instruction.JumpIfNotEqualK src1 src2 offset) = compareJump unequal (register src1) (pooled src2) offset
 action (Instruction.CaptureValue src) = other
 
 -- "A jump goes to its own place plus its offset." "An offset is a two's-complement word": from 2^31 on it is negative, and a place below 0 is none.
@@ -176,7 +176,7 @@ module _ (M : Operators) where
         reading (read R s) (λ v. reading (read R t) (λ w. onward (truth M (M .compare o v w)) (λ u. at (suc place) (fill R d u))))
     act (jump offset) place R = goTo (target place offset) R
     act (jumpOn sense s offset) place R = reading (read R s) (λ v. onward (M .test v) (λ b. branch (Bool·beq b sense) offset place R))
-    act (jumpIf o s t offset) place R = reading (read R s) (λ v. reading (read R t) (λ w. onward (M .compare o v w) (λ b. branch b offset place R)))
+    act (compareJump o s t offset) place R = reading (read R s) (λ v. reading (read R t) (λ w. onward (M .compare o v w) (λ b. branch b offset place R)))
     act (return r) place R = ended (returned (R r))
     act other place R = ended lost
 
@@ -186,11 +186,11 @@ module _ (M : Operators) where
       stepAt (some i) place R = act (action i) place R
       stepAt none place R = ended lost
 
-      unfoldable pub step : Now M → Now M
-      step (at place R) = stepAt (code place) place R
-      step (ended e) = ended e
+      unfoldable pub machineStep : Now M → Now M
+      machineStep (at place R) = stepAt (code place) place R
+      machineStep (ended e) = ended e
 
       -- after n steps
       unfoldable pub after : ℕ → Now M → Now M
       after zero s = s
-      after (suc n) s = step (after n s)
+      after (suc n) s = machineStep (after n s)

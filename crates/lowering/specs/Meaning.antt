@@ -65,24 +65,24 @@ Ordered M a b = M .compare lessEqual b a ≡ opposite (M .compare less a b)
 -- ---- the value of a node
 
 -- a value, a failure, or undefined: an undeclared name and an else that is missing (no accepted tree reaches either), a call and a map
-pub data Worth (F A : Type 0) : Type 0 where
-  worth : A → Worth F A
-  fails : F → Worth F A
-  undefined : Worth F A
+pub data Evaluation (F A : Type 0) : Type 0 where
+  evaluates : A → Evaluation F A
+  fails : F → Evaluation F A
+  undefined : Evaluation F A
 
-abbrev pub given : {F A : Type 0} → Answer F A → Worth F A
-given (val a) = worth a
+abbrev pub given : {F A : Type 0} → Answer F A → Evaluation F A
+given (val a) = evaluates a
 given (fail x) = fails x
 
 -- "the first failure ends it"
-abbrev pub andThen : {F A B : Type 0} → Worth F A → (A → Worth F B) → Worth F B
-andThen (worth a) k = k a
+abbrev pub andThen : {F A B : Type 0} → Evaluation F A → (A → Evaluation F B) → Evaluation F B
+andThen (evaluates a) k = k a
 andThen (fails x) k = fails x
 andThen undefined k = undefined
 
 -- what is asked of the value, if there is one
-pub data IfAny {F A : Type 0} (K : A → Type 0) : Worth F A → Type 0 where
-  met : {a : A} → K a → IfAny K (worth a)
+pub data IfAny {F A : Type 0} (K : A → Type 0) : Evaluation F A → Type 0 where
+  met : {a : A} → K a → IfAny K (evaluates a)
   unmet : {x : F} → IfAny K (fails x)
   unasked : IfAny K undefined
 
@@ -116,46 +116,46 @@ module _ (M : Operators) where
   unaryOf UnaryOp.Deref = deref
 
   -- the values of nodes
-  abbrev pub Worths : Type 0
-  Worths = ℕ → Worth (M .Failure) (M .Value)
+  abbrev pub Evaluations : Type 0
+  Evaluations = ℕ → Evaluation (M .Failure) (M .Value)
 
-  abbrev pub tests : Worth (M .Failure) (M .Value) → Worth (M .Failure) Bool
+  abbrev pub tests : Evaluation (M .Failure) (M .Value) → Evaluation (M .Failure) Bool
   tests w = andThen w (λ a. given (M .test a))
 
   module _ (t : Tree) (parameters : ℕ → M .Value) where
     -- "a name the last parameter so called"
-    abbrev pub parameter : Option ℕ → Worth (M .Failure) (M .Value)
-    parameter (some i) = worth (parameters i)
+    abbrev pub parameter : Option ℕ → Evaluation (M .Failure) (M .Value)
+    parameter (some i) = evaluates (parameters i)
     parameter none = undefined
 
     -- "worked out left to right". "A literal is its constant, [..] a block its tail or nil." "And gives its left value when that tests false,
     -- else works out and gives its right; or the reverse. An if works out its then where the condition tests true, otherwise its else."
-    unfoldable pub nodeWorth : Worths → Node → Worth (M .Failure) (M .Value)
-    nodeWorth W (Node.Number low high) = worth (M .number (numberOf low high))
-    nodeWorth W (Node.String symbol) = worth (M .string symbol)
-    nodeWorth W (Node.Boolean b) = worth (M .boolean b)
-    nodeWorth W Node.Nil = worth (M .nil)
-    nodeWorth W (Node.Identifier symbol) = parameter (lastNamed (t .names) symbol)
-    nodeWorth W (Node.Binary operator left right) = andThen (W left) (λ a. andThen (W right) (λ b. given (operate operator a b)))
-    nodeWorth W (Node.Unary operator operand) = andThen (W operand) (λ a. given (M .unary (unaryOf operator) a))
-    nodeWorth W (Node.LogicalNot operand) = andThen (W operand) (λ a. given (M .unary invert a))
-    nodeWorth W (Node.LogicalAnd left right) = andThen (W left) (λ a. andThen (given (M .test a)) (λ b. cond b (W right) (worth a)))
-    nodeWorth W (Node.LogicalOr left right) = andThen (W left) (λ a. andThen (given (M .test a)) (λ b. cond b (worth a) (W right)))
-    nodeWorth W (Node.If condition thenBranch elseBranch) =
+    unfoldable pub nodeValue : Evaluations → Node → Evaluation (M .Failure) (M .Value)
+    nodeValue W (Node.Number low high) = evaluates (M .number (numberOf low high))
+    nodeValue W (Node.String symbol) = evaluates (M .string symbol)
+    nodeValue W (Node.Boolean b) = evaluates (M .boolean b)
+    nodeValue W Node.Nil = evaluates (M .nil)
+    nodeValue W (Node.Identifier symbol) = parameter (lastNamed (t .names) symbol)
+    nodeValue W (Node.Binary operator left right) = andThen (W left) (λ a. andThen (W right) (λ b. given (operate operator a b)))
+    nodeValue W (Node.Unary operator operand) = andThen (W operand) (λ a. given (M .unary (unaryOf operator) a))
+    nodeValue W (Node.LogicalNot operand) = andThen (W operand) (λ a. given (M .unary invert a))
+    nodeValue W (Node.LogicalAnd left right) = andThen (W left) (λ a. andThen (given (M .test a)) (λ b. cond b (W right) (evaluates a)))
+    nodeValue W (Node.LogicalOr left right) = andThen (W left) (λ a. andThen (given (M .test a)) (λ b. cond b (evaluates a) (W right)))
+    nodeValue W (Node.If condition thenBranch elseBranch) =
         andThen (W condition) (λ a. andThen (given (M .test a)) (λ b. cond b (W thenBranch) (cond (eqb elseBranch absent) undefined (W elseBranch))))
-    nodeWorth W (Node.Block tail) = cond (eqb tail absent) (worth (M .nil)) (W tail)
-    nodeWorth W (Node.FunctionCall callee start count) = undefined
-    nodeWorth W (Node.PropertyAccess object symbol) = andThen (W object) (λ a. given (M .binary property a (M .string symbol)))
-    nodeWorth W (Node.Map start count) = undefined
+    nodeValue W (Node.Block tail) = cond (eqb tail absent) (evaluates (M .nil)) (W tail)
+    nodeValue W (Node.FunctionCall callee start count) = undefined
+    nodeValue W (Node.PropertyAccess object symbol) = andThen (W object) (λ a. given (M .binary property a (M .string symbol)))
+    nodeValue W (Node.Map start count) = undefined
 
-    -- The recursion over the arena, with a bound above the index, as in the definition of lowering. `worthAt` is cited, with no bound: where
-    -- question 7 is answered yes, `worthAt i` is `nodeWorth worthAt` of node i (proofs/Bound/Meaning).
-    unfoldable pub worthBelow : ℕ → Worths
-    worthBelow zero i = undefined
-    worthBelow (suc bound) i = nodeWorth (λ n. worthBelow bound n) (node t i)
+    -- The recursion over the arena, with a bound above the index, as in the definition of lowering. `valueAt` is cited, with no bound: where
+    -- question 7 is answered yes, `valueAt i` is `nodeValue valueAt` of node i (proofs/Bound/Meaning).
+    unfoldable pub valueBelow : ℕ → Evaluations
+    valueBelow zero i = undefined
+    valueBelow (suc bound) i = nodeValue (λ n. valueBelow bound n) (node t i)
 
-    unfoldable pub worthAt : Worths
-    worthAt i = worthBelow (suc i) i
+    unfoldable pub valueAt : Evaluations
+    valueAt i = valueBelow (suc i) i
 
     -- ---- the order premise
 
@@ -174,7 +174,7 @@ module _ (M : Operators) where
     OrderAt BinaryOp.LessEqual a b = Ordered M a b × Ordered M b a
 
     -- what is asked where a node is an if's condition
-    unfoldable pub conditionAsks : Worths → Node → Type 0
+    unfoldable pub conditionAsks : Evaluations → Node → Type 0
     conditionAsks W (Node.Number low high) = Unit {0}
     conditionAsks W (Node.String symbol) = Unit {0}
     conditionAsks W (Node.Boolean b) = Unit {0}
@@ -196,7 +196,7 @@ module _ (M : Operators) where
     Chosen false A B = B
 
     -- what is asked while a node is worked out: A of each node worked out, C of each condition
-    unfoldable pub nodeAsks : Worths → (ℕ → Type 0) → (ℕ → Type 0) → Node → Type 0
+    unfoldable pub nodeAsks : Evaluations → (ℕ → Type 0) → (ℕ → Type 0) → Node → Type 0
     nodeAsks W A C (Node.Number low high) = Unit {0}
     nodeAsks W A C (Node.String symbol) = Unit {0}
     nodeAsks W A C (Node.Boolean b) = Unit {0}
@@ -217,11 +217,11 @@ module _ (M : Operators) where
 
     unfoldable pub conditionAsksBelow : ℕ → ℕ → Type 0
     conditionAsksBelow zero i = Unit {0}
-    conditionAsksBelow (suc bound) i = conditionAsks (λ n. worthBelow bound n) (node t i)
+    conditionAsksBelow (suc bound) i = conditionAsks (λ n. valueBelow bound n) (node t i)
 
     unfoldable pub asksBelow : ℕ → ℕ → Type 0
     asksBelow zero i = Unit {0}
-    asksBelow (suc bound) i = nodeAsks (λ n. worthBelow bound n) (λ n. asksBelow bound n) (λ n. conditionAsksBelow bound n) (node t i)
+    asksBelow (suc bound) i = nodeAsks (λ n. valueBelow bound n) (λ n. asksBelow bound n) (λ n. conditionAsksBelow bound n) (node t i)
 
     -- the order premise: of each if met while node i is worked out
     unfoldable pub OrderPremise : ℕ → Type 0
@@ -267,22 +267,22 @@ Plain (Node.PropertyAccess object symbol) = Unit {0}
 Plain (Node.Map start count) = ⊥
 
 -- "nodes and ifs together, each counted at every use": an if counts twice
-unfoldable pub counts : Node → ℕ
-counts (Node.Number low high) = 1
-counts (Node.String symbol) = 1
-counts (Node.Boolean b) = 1
-counts Node.Nil = 1
-counts (Node.Identifier symbol) = 1
-counts (Node.Binary operator left right) = 1
-counts (Node.Unary operator operand) = 1
-counts (Node.LogicalNot operand) = 1
-counts (Node.LogicalAnd left right) = 1
-counts (Node.LogicalOr left right) = 1
-counts (Node.If condition thenBranch elseBranch) = 2
-counts (Node.Block tail) = 1
-counts (Node.FunctionCall callee start count) = 1
-counts (Node.PropertyAccess object symbol) = 1
-counts (Node.Map start count) = 1
+unfoldable pub nodeSize : Node → ℕ
+nodeSize (Node.Number low high) = 1
+nodeSize (Node.String symbol) = 1
+nodeSize (Node.Boolean b) = 1
+nodeSize Node.Nil = 1
+nodeSize (Node.Identifier symbol) = 1
+nodeSize (Node.Binary operator left right) = 1
+nodeSize (Node.Unary operator operand) = 1
+nodeSize (Node.LogicalNot operand) = 1
+nodeSize (Node.LogicalAnd left right) = 1
+nodeSize (Node.LogicalOr left right) = 1
+nodeSize (Node.If condition thenBranch elseBranch) = 2
+nodeSize (Node.Block tail) = 1
+nodeSize (Node.FunctionCall callee start count) = 1
+nodeSize (Node.PropertyAccess object symbol) = 1
+nodeSize (Node.Map start count) = 1
 
 unfoldable pub total : (ℕ → ℕ) → List ℕ → ℕ
 total S [] = 0
@@ -290,7 +290,7 @@ total S (i ∷ is) = S i + total S is
 
 unfoldable pub sizeBelow : Tree → ℕ → ℕ → ℕ
 sizeBelow t zero i = 0
-sizeBelow t (suc bound) i = counts (node t i) + total (λ n. sizeBelow t bound n) (children (t .list) (node t i))
+sizeBelow t (suc bound) i = nodeSize (node t i) + total (λ n. sizeBelow t bound n) (children (t .list) (node t i))
 
 unfoldable pub sizeAt : Tree → ℕ → ℕ
 sizeAt t i = sizeBelow t (suc i) i

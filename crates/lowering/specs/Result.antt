@@ -17,7 +17,7 @@ use Rattle.lowering.specs.declared.Dest.{Dest}
 use Rattle.lowering.specs.Tree.{Tree, treeOf}
 use Rattle.lowering.specs.Questions.{Verdict, passed, refused, questions}
 use Rattle.lowering.specs.Walk.{Made, made, Outcome, ends, stops, Walk, bind, _>>=_, _>>_, ret}
-use Rattle.lowering.specs.Steps.{freeTemp, emit, patchArguments, withOffset}
+use Rattle.lowering.specs.Steps.{freeTemp, emit, patchArguments, putOffset}
 use Rattle.lowering.specs.Lower.{lowerMaterializing, lowerExpression, lowerJumpIfFalse, lowerJumpIfTrue}
 
 -- "Result: number (0 accepted), place, span start, span end, instructions, constants, frame size, arity."
@@ -76,18 +76,18 @@ result number place start end instructions constants frameSize arity =
       arity = arity;
     }
 
-abbrev pub leaves : Result → Made → Lowered
-leaves r m = record { result = r; code = m .code; constants = m .constants; marks = m .marks }
+abbrev pub lowered : Result → Made → Lowered
+lowered r m = record { result = r; code = m .code; constants = m .constants; marks = m .marks }
 
 -- "In modes 1 and 2 an accepted place is the jump's; otherwise 0." "On refusal the last two are 0."
-unfoldable pub answered : ℕ → Outcome ℕ → Lowered
-answered arity (ends place m) = leaves (result 0 place 0 0 (m .state .instructions) (m .state .constants) (m .state .registers .«frame_size») arity) m
-answered arity (stops e m) = leaves (result (refusalNumber (e .refusal)) (e .place) (e .start) (e .end) (m .state .instructions) (m .state .constants) 0 0) m
+unfoldable pub loweredOf : ℕ → Outcome ℕ → Lowered
+loweredOf arity (ends place m) = lowered (result 0 place 0 0 (m .state .instructions) (m .state .constants) (m .state .registers .«frame_size») arity) m
+loweredOf arity (stops e m) = lowered (result (refusalNumber (e .refusal)) (e .place) (e .start) (e .end) (m .state .instructions) (m .state .constants) 0 0) m
 
 -- "Before the walk [..]; counts are 0": nothing is written
 unfoldable pub lowerChecked : (Register → Walk Unit) → Verdict → Tree → ℕ → ℕ → Made → Lowered
-lowerChecked giveBack passed t mode root m = answered (length (t .names)) (lowerRoot giveBack t mode root m)
-lowerChecked giveBack (refused refusal place) t mode root m = leaves (result (refusalNumber refusal) place 0 0 0 0 0 0) m
+lowerChecked giveBack passed t mode root m = loweredOf (length (t .names)) (lowerRoot giveBack t mode root m)
+lowerChecked giveBack (refused refusal place) t mode root m = lowered (result (refusalNumber refusal) place 0 0 0 0 0 0) m
 
 -- Lowering. `giveBack` gives a register back; the tree is given in bytes, the buffers in words.
 abbrev pub lowerBy : (Register → Walk Unit) → List ℕ → ℕ → ℕ → List ℕ → List ℕ → List ℕ → List ℕ → List ℕ → Lowered
@@ -112,5 +112,5 @@ pub record JumpPatched : Type 0 where
 unfoldable pub patchJump : List ℕ → ℕ → ℕ → ℕ → JumpPatched
 patchJump code count index offset =
     cond (canPatch code count index)
-    (record { number = 0; code = withOffset code index offset })
+    (record { number = 0; code = putOffset code index offset })
     (record { number = refusalNumber Refusal.Jump; code = code })

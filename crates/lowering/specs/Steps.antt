@@ -89,12 +89,12 @@ loadConstant c dest = do
   ret d
 
 -- the offset of the jump at place j made o
-unfoldable pub withOffset : List ℕ → ℕ → ℕ → List ℕ
-withOffset code j o = set code (instructionWidth * j + offsetWord (getD code (instructionWidth * j) 0)) o
+unfoldable pub putOffset : List ℕ → ℕ → ℕ → List ℕ
+putOffset code j o = set code (instructionWidth * j + offsetWord (getD code (instructionWidth * j) 0)) o
 
 -- `patch_jump` of the walk: the jump at place j goes to the instruction that is emitted next
 unfoldable pub patchToNext : ℕ → Walk Unit
-patchToNext j m = ends tt (withCode (withOffset (m .code) j (m .state .instructions - j)) (m .state .instructions) m)
+patchToNext j m = ends tt (withCode (putOffset (m .code) j (m .state .instructions - j)) (m .state .instructions) m)
 
 -- "the last instruction so far is marked (the mark word is its place)". 15: "Is any instruction there when an argument is marked? (the call)",
 -- whose place and span are given; 16: "Is there a word for the mark?"

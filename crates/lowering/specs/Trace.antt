@@ -25,7 +25,7 @@ use Rattle.runtime.specs.Function.{maxInstructions}
 use Rattle.runtime.specs.Pool.{Unpooled}
 use Rattle.lowering.specs.Tree.{Tree, node, spanStart, spanEnd}
 use Rattle.lowering.specs.Walk.{Made, Outcome, ends, stops, Walk, _>>=_, ret, error, unnamed}
-use Rattle.lowering.specs.Steps.{withRegisters, withCode, withConstants, withMarks, withOffset, allocateTemp, freeTemp, emit, store, patchToNext, mark, patchArgument, patchMarks, patchArguments}
+use Rattle.lowering.specs.Steps.{withRegisters, withCode, withConstants, withMarks, putOffset, allocateTemp, freeTemp, emit, store, patchToNext, mark, patchArgument, patchMarks, patchArguments}
 use Rattle.lowering.specs.Lower.{nameOf}
 use Rattle.lowering.specs.Meaning.{Reaches}
 use Rattle.lowering.specs.Fields.{Narrow}
@@ -132,7 +132,7 @@ module _ (t : Tree) (root : ℕ) where
     -- a temporary is given back, which is held
     gives : {m : Made} (r : ℕ) → Held m r → Step Unit (freeTemp (Register.Temp r)) m (ends tt (withRegisters (givenBack (registersOf m) r) m))
     -- a local is not given back
-    leaves : {m : Made} (r : ℕ) → Step Unit (freeTemp (Register.Local r)) m (ends tt m)
+    keeps : {m : Made} (r : ℕ) → Step Unit (freeTemp (Register.Local r)) m (ends tt m)
     -- an instruction is put after the last, where there is room; its fields fit
     emits : {m : Made} (i : Instruction) → Narrow (constantsOf m) (wordsOf i) → instructionsOf m < maxInstructions →
         instructionsOf m < capacity instructionWidth (m .code) →
@@ -146,7 +146,7 @@ module _ (t : Tree) (root : ℕ) where
         (ends (constantsOf m) (withConstants (putRecord constantWidth (m .constants) (constantsOf m) (constantWords c)) (constantsOf m + 1) m))
     -- a jump that is made gets its offset
     patches : {m : Made} (j : ℕ) → j < instructionsOf m → JumpKind (kindAt m j) →
-        Step Unit (patchToNext j) m (ends tt (withCode (withOffset (m .code) j (instructionsOf m - j)) (instructionsOf m) m))
+        Step Unit (patchToNext j) m (ends tt (withCode (putOffset (m .code) j (instructionsOf m - j)) (instructionsOf m) m))
     -- the last instruction is marked, where there is one and a word for the mark
     marks : {m : Made} (i start end : ℕ) → 0 < instructionsOf m → marksOf m < capacity 1 (m .marks) →
         Step ℕ (mark i start end) m (ends (marksOf m) (withMarks (putRecord 1 (m .marks) (marksOf m) ((instructionsOf m - 1) ∷ [])) (marksOf m + 1) m))

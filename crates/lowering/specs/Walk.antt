@@ -45,6 +45,6 @@ abbrev pub unnamed : Refusal → Error
 unnamed refusal = error refusal 0 0 0
 
 -- what was made, whether it ended or stopped
-unfoldable pub left : {A : Type 0} → Outcome A → Made
-left (ends a m) = m
-left (stops e m) = m
+unfoldable pub madeOf : {A : Type 0} → Outcome A → Made
+madeOf (ends a m) = m
+madeOf (stops e m) = m

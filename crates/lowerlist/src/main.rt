@@ -7,9 +7,9 @@ ghost use Rattle.listing.specs.Text.{longestText};
 ghost use Rattle.listing.specs.Output.{longestListing, lowerlist};
 use libc::STDIN_FILENO;
 use libc::STDOUT_FILENO;
-use lister::list;
-use lister::listing_buffer;
-use lister::text_buffer;
+use lower_text::list;
+use lower_text::listing_buffer;
+use lower_text::text_buffer;
 
 // Lists an input of which the first `size` bytes of `text` were read: the whole input, or as much of it as `text` holds. What is printed is the listing of the
 // whole input in both cases: an input longer than the longest good text is bad, whatever follows.

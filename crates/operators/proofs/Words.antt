@@ -13,7 +13,7 @@ use Rattle.syntax.specs.declared.ops.Comparison.{Comparison}
 use Rattle.syntax.specs.Ops.{binaryOps, binaryOp}
 use Rattle.syntax.proofs.Tables.{getD-past, five-past}
 use Rattle.lowering.specs.Operators.{comparison}
-use Rattle.operators.specs.Opcodes.{swaps, compares}
+use Rattle.operators.specs.Opcodes.{swaps, isComparison}
 use Rattle.operators.proofs.Compares.{some-compares}
 
 -- past Less stands LessEqual
@@ -45,9 +45,9 @@ swaps-word =
     by-word (λ w op. (eqb w 7 || eqb w 8) ≡ swaps op) refl refl refl refl refl refl refl refl refl refl
     (λ w h. rw (ne-eqb w 7 (omega arith), ne-eqb w 8 (omega arith)))
 
-pub compares-word : (w : ℕ) → leb 5 w ≡ compares (binaryOp w)
-unfolding compares
-compares-word = by-word (λ w op. leb 5 w ≡ compares op) refl refl refl refl refl refl refl refl refl refl (λ w h. le-leb 5 w (omega arith))
+pub compares-word : (w : ℕ) → leb 5 w ≡ isComparison (binaryOp w)
+unfolding isComparison
+compares-word = by-word (λ w op. leb 5 w ≡ isComparison op) refl refl refl refl refl refl refl refl refl refl (λ w h. le-leb 5 w (omega arith))
 
 -- a number is n, or what follows where it is not
 or-else : (w n : ℕ) {B : Type 0} → ((w ≡ n → ⊥) → B) → (w ≡ n) ⊎ B

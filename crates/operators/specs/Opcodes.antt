@@ -43,22 +43,22 @@ jumpSwaps sense Comparison.Greater = sense
 jumpSwaps sense Comparison.GreaterEqual = sense
 
 -- two operands in the order in which an instruction has them
-abbrev pub first : Bool → ℕ → ℕ → ℕ
-first swap a b = cond swap b a
+abbrev pub firstOf : Bool → ℕ → ℕ → ℕ
+firstOf swap a b = cond swap b a
 
-abbrev pub second : Bool → ℕ → ℕ → ℕ
-second swap a b = cond swap a b
+abbrev pub secondOf : Bool → ℕ → ℕ → ℕ
+secondOf swap a b = cond swap a b
 
 -- whether an operator is "one of the six comparisons"
-unfoldable pub compares : BinaryOp → Bool
-compares BinaryOp.Add = false
-compares BinaryOp.Subtract = false
-compares BinaryOp.Multiply = false
-compares BinaryOp.Divide = false
-compares BinaryOp.Modulo = false
-compares BinaryOp.Equal = true
-compares BinaryOp.NotEqual = true
-compares BinaryOp.Greater = true
-compares BinaryOp.GreaterEqual = true
-compares BinaryOp.Less = true
-compares BinaryOp.LessEqual = true
+unfoldable pub isComparison : BinaryOp → Bool
+isComparison BinaryOp.Add = false
+isComparison BinaryOp.Subtract = false
+isComparison BinaryOp.Multiply = false
+isComparison BinaryOp.Divide = false
+isComparison BinaryOp.Modulo = false
+isComparison BinaryOp.Equal = true
+isComparison BinaryOp.NotEqual = true
+isComparison BinaryOp.Greater = true
+isComparison BinaryOp.GreaterEqual = true
+isComparison BinaryOp.Less = true
+isComparison BinaryOp.LessEqual = true

@@ -9,14 +9,14 @@ ghost use Rattle.syntax.specs.declared.ops.Comparison.{Comparison};
 ghost use Rattle.syntax.specs.Ops.{binaryOp, unaryOp};
 ghost use Rattle.runtime.specs.Instruction.{wordsOf};
 ghost use Rattle.lowering.specs.Operators.{binaryRR, binaryRK, binaryKR, unary, comparison, jumpRR, jumpRK, jumpKR, jumpIf};
-ghost use Rattle.operators.specs.Opcodes.{swaps, swapsKR, jumpSwaps, first, second, compares};
+ghost use Rattle.operators.specs.Opcodes.{swaps, swapsKR, jumpSwaps, firstOf, secondOf, isComparison};
 use runtime::opcode;
 use syntax::operator;
 
 // Greater swaps the operands.
 pub fn binary_rr(operator: u32) -> u32
     ensures { λ r. ⌜ ((d a b : ℕ) → wordsOf (binaryRR (binaryOp operator) d a b)
-        ≡ r ∷ d ∷ first (swaps (binaryOp operator)) a b ∷ second (swaps (binaryOp operator)) a b ∷ []) ⌝ }
+        ≡ r ∷ d ∷ firstOf (swaps (binaryOp operator)) a b ∷ secondOf (swaps (binaryOp operator)) a b ∷ []) ⌝ }
 {
     match operator {
         operator::ADD => opcode::ADD,
@@ -34,7 +34,7 @@ pub fn binary_rr(operator: u32) -> u32
 // Greater swaps the operands: the constant comes first.
 pub fn binary_rk(operator: u32) -> u32
     ensures { λ r. ⌜ ((d a k : ℕ) → wordsOf (binaryRK (binaryOp operator) d a k)
-        ≡ r ∷ d ∷ first (swaps (binaryOp operator)) a k ∷ second (swaps (binaryOp operator)) a k ∷ []) ⌝ }
+        ≡ r ∷ d ∷ firstOf (swaps (binaryOp operator)) a k ∷ secondOf (swaps (binaryOp operator)) a k ∷ []) ⌝ }
 {
     match operator {
         operator::ADD => opcode::ADD_K,
@@ -54,7 +54,7 @@ pub fn binary_rk(operator: u32) -> u32
 // A constant on the left of add, multiply, equal, not-equal goes right.
 pub fn binary_kr(operator: u32) -> u32
     ensures { λ r. ⌜ ((d k b : ℕ) → wordsOf (binaryKR (binaryOp operator) d k b)
-        ≡ r ∷ d ∷ first (swapsKR (binaryOp operator)) k b ∷ second (swapsKR (binaryOp operator)) k b ∷ []) ⌝ }
+        ≡ r ∷ d ∷ firstOf (swapsKR (binaryOp operator)) k b ∷ secondOf (swapsKR (binaryOp operator)) k b ∷ []) ⌝ }
 {
     match operator {
         operator::ADD => opcode::ADD_K,
@@ -103,7 +103,7 @@ pub fn unary(operator: u32) -> u32
 
 // Six of the operators compare.
 pub fn is_comparison(operator: u32) -> bool
-    ensures { λ r. ⌜ r ≡ compares (binaryOp operator) ⌝ }
+    ensures { λ r. ⌜ r ≡ isComparison (binaryOp operator) ⌝ }
 {
     operator::EQUAL <= operator
 }
@@ -111,7 +111,7 @@ pub fn is_comparison(operator: u32) -> bool
 // The jump that is taken where the comparison gives `sense`.
 pub fn jump_rr(sense: bool, operator: u32) -> u32
     ensures { λ r. ⌜ ((c : Comparison) → comparison (binaryOp operator) ≡ some c → (a b : ℕ)
-        → wordsOf (jumpRR sense c a b) ≡ r ∷ first (jumpSwaps sense c) a b ∷ second (jumpSwaps sense c) a b ∷ 0 ∷ []) ⌝ }
+        → wordsOf (jumpRR sense c a b) ≡ r ∷ firstOf (jumpSwaps sense c) a b ∷ secondOf (jumpSwaps sense c) a b ∷ 0 ∷ []) ⌝ }
 {
     if sense {
         match operator {

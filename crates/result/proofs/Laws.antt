@@ -25,17 +25,17 @@ past n h =
 module _ (arity : ℕ) (t : Tree) (m : Made) (a : ℕ) where
   pub result-refused : {number place start end : ℕ} → isRefusal a ≡ true → number ≡ refusalNumber (refusalOf (numberOfRefusal a)) → place ≡ valueOf a →
       start ≡ cond (namesNode (refusalOf (numberOfRefusal a))) (spanStart t (valueOf a)) 0 → end ≡ cond (namesNode (refusalOf (numberOfRefusal a))) (spanEnd t (valueOf a)) 0 →
-      definition.result number place start end (m .state .instructions) (m .state .constants) 0 0 ≡ definition.answered arity (seen t placeAt m a) .result
-  unfolding definition.answered seen errorAt
+      definition.result number place start end (m .state .instructions) (m .state .constants) 0 0 ≡ definition.loweredOf arity (seen t placeAt m a) .result
+  unfolding definition.loweredOf seen errorAt
   result-refused h n p s e = rw (h, n, p, s, e) (go (namesNode (refusalOf (numberOfRefusal a))))
     where
       go : (b : Bool) →
           definition.result (refusalNumber (refusalOf (numberOfRefusal a))) (valueOf a) (cond b (spanStart t (valueOf a)) 0) (cond b (spanEnd t (valueOf a)) 0) (m .state .instructions) (m .state .constants) 0 0
-          ≡ definition.answered arity (stops (cond b (error (refusalOf (numberOfRefusal a)) (valueOf a) (spanStart t (valueOf a)) (spanEnd t (valueOf a))) (error (refusalOf (numberOfRefusal a)) (valueOf a) 0 0)) (settle m)) .result
+          ≡ definition.loweredOf arity (stops (cond b (error (refusalOf (numberOfRefusal a)) (valueOf a) (spanStart t (valueOf a)) (spanEnd t (valueOf a))) (error (refusalOf (numberOfRefusal a)) (valueOf a) 0 0)) (settle m)) .result
       go true = refl
       go false = refl
 
   pub result-placed : {place : ℕ} → isRefusal a ≡ false → place ≡ valueOf a →
-      definition.result 0 place 0 0 (m .state .instructions) (m .state .constants) (m .state .registers .«frame_size») arity ≡ definition.answered arity (seen t placeAt m a) .result
-  unfolding definition.answered seen
+      definition.result 0 place 0 0 (m .state .instructions) (m .state .constants) (m .state .registers .«frame_size») arity ≡ definition.loweredOf arity (seen t placeAt m a) .result
+  unfolding definition.loweredOf seen
   result-placed h p = rw (h, p)

@@ -8,12 +8,12 @@ ghost use Rattle.words.specs.Words.{words};
 ghost use Rattle.syntax.specs.Ast.{nodeWord};
 ghost use Rattle.lowering.specs.Tree.{treeOf};
 ghost use Rattle.lowering.specs.Walk.{made};
-ghost use Rattle.lowering.specs.Result.{numbersOf, answered};
+ghost use Rattle.lowering.specs.Result.{numbersOf, loweredOf};
 ghost use Rattle.steps.specs.Answers.{placeAt, refusalOf, namesNode, seen};
 ghost use Rattle.result.specs.Numbers.{numbers, refusedResult};
 use diagnostics::Refusal;
 use lowering::RESULT_WORDS;
-use steps::answer::Lowered;
+use steps::answer::AnswerAndState;
 use steps::answer::is_refusal;
 use steps::answer::number_of;
 use steps::answer::value_of;
@@ -97,8 +97,8 @@ fn span_word(nodes: &[u8], number: u32, place: u32, k: u32) -> u32
 }
 
 // The numbers of what was made. On a refusal the last two are 0, and the span is that of the node that it names.
-pub fn result_of(nodes: &[u8], lowered: Lowered, arity: u32) -> Result
-    ensures { λ r. ⌜ ((list names k p m : List ℕ) → numbers r ≡ answered arity (seen (treeOf (now (nodes .entry)) list names) placeAt (made k p m (lowered .state)) (lowered .answer)) .result) ⌝ }
+pub fn result_of(nodes: &[u8], lowered: AnswerAndState, arity: u32) -> Result
+    ensures { λ r. ⌜ ((list names k p m : List ℕ) → numbers r ≡ loweredOf arity (seen (treeOf (now (nodes .entry)) list names) placeAt (made k p m (lowered .state)) (lowered .answer)) .result) ⌝ }
 {
     let s = lowered.state;
     let registers = s.registers;

@@ -13,18 +13,18 @@ use lib.Dec.{ltb}
 use borrow.Author.Tests.{ltb-true, ltb-false, lt-ltb, le-ltb}
 use Rattle.runtime.specs.declared.instruction.Instruction.{Instruction}
 use Rattle.runtime.specs.Instruction.{instructionWidth, wordsOf, decoders, decode, hasDestination, offsetWord}
-use Rattle.runtime.specs.Encoding.{kindOf, patched, withOffset, withDestination, Fields, one, recordOf, fields, fieldsOf}
+use Rattle.runtime.specs.Encoding.{kindOf, patched, withOffset, withDestination, FieldCount, one, recordOf, fieldCounts, fieldCountOf}
 
 -- a record with its offset, word w, made o; there is none where w is 0, the kind's own word
-abbrev putOffset : ℕ → ℕ → List ℕ → List ℕ
-putOffset zero o ws = ws
-putOffset (suc w) o ws = set ws (suc w) o
+abbrev setOffset : ℕ → ℕ → List ℕ → List ℕ
+setOffset zero o ws = ws
+setOffset (suc w) o ws = set ws (suc w) o
 
 -- what the words of an instruction compute to: their number, what they decode to, and what another offset and another destination make of them
 record Encoded (i : Instruction) : Type 0 where
   width : length (wordsOf i) ≡ instructionWidth
   decoded : decode (wordsOf i) ≡ some i
-  offset : (o : ℕ) → wordsOf (withOffset o i) ≡ putOffset (offsetWord (kindOf i)) o (wordsOf i)
+  offset : (o : ℕ) → wordsOf (withOffset o i) ≡ setOffset (offsetWord (kindOf i)) o (wordsOf i)
   destination : (d : ℕ) → wordsOf (withDestination d i) ≡ cond (hasDestination (kindOf i)) (set (wordsOf i) 1 d) (wordsOf i)
 
 encoded : (i : Instruction) → Encoded i
@@ -114,11 +114,11 @@ words-of-injective i j e = cc (decode-words-of i, decode-words-of j)
 -- ---- the other direction
 
 -- the table of these records, from kind k on
-abbrev records : ℕ → List Fields → List (ℕ → ℕ → ℕ → Option (List ℕ))
+abbrev records : ℕ → List FieldCount → List (ℕ → ℕ → ℕ → Option (List ℕ))
 records k [] = []
 records k (n ∷ ns) = (λ a b c. some (recordOf n k a b c)) ∷ records (suc k) ns
 
-getD-records : (k : ℕ) (ns : List Fields) (j : ℕ) (none′ : ℕ → ℕ → ℕ → Option (List ℕ)) → j < length ns →
+getD-records : (k : ℕ) (ns : List FieldCount) (j : ℕ) (none′ : ℕ → ℕ → ℕ → Option (List ℕ)) → j < length ns →
     getD (records k ns) j none′ ≡ (λ a b c. some (recordOf (getD ns j one) (k + j) a b c))
 getD-records k [] j d h = absurd (omega arith)
 getD-records k (n ∷ ns) zero d h = let e : k + zero ≡ k = omega arith in rw e
@@ -128,19 +128,19 @@ abbrev recoded : (ℕ → ℕ → ℕ → Option Instruction) → ℕ → ℕ �
 recoded f a b c = Option·map wordsOf (f a b c)
 
 -- the whole table at once: what each kind decodes to has the words that were decoded, with 0 after the last field
-recoded-decoders : map recoded decoders ≡ records 0 fields
+recoded-decoders : map recoded decoders ≡ records 0 fieldCounts
 unfolding wordsOf
 recoded-decoders = refl
 
 -- what a record of a kind up to 54 decodes to has its words, with 0 after the last field
-pub words-of-decode : (k a b c : ℕ) → k ≤ 54 → Option·map wordsOf (decode (k ∷ a ∷ b ∷ c ∷ [])) ≡ some (recordOf (fieldsOf k) k a b c)
+pub words-of-decode : (k a b c : ℕ) → k ≤ 54 → Option·map wordsOf (decode (k ∷ a ∷ b ∷ c ∷ [])) ≡ some (recordOf (fieldCountOf k) k a b c)
 unfolding decode
 words-of-decode k a b c h =
     ap (λ row. row a b c)
     (sym (List·getD-map recoded decoders k (λ a b c. none))
     ∙ ap (λ rows. getD rows k (λ a b c. none)) recoded-decoders
-    ∙ getD-records 0 fields k (λ a b c. none) (omega arith)
-    ∙ ap (λ n a b c. some (recordOf (fieldsOf k) n a b c)) (omega arith))
+    ∙ getD-records 0 fieldCounts k (λ a b c. none) (omega arith)
+    ∙ ap (λ n a b c. some (recordOf (fieldCountOf k) n a b c)) (omega arith))
 
 module _ (k a b c : ℕ) where
   -- a kind up to 54 decodes
@@ -148,15 +148,15 @@ module _ (k a b c : ℕ) where
   decode-below h = let found = map-eq-some-iff wordsOf (decode (k ∷ a ∷ b ∷ c ∷ [])) .0 (words-of-decode k a b c h) in (found .0, found .1)
 
   -- what is decoded has the words of the record, with 0 after the last field: those after it are not looked at
-  pub decoded-words : (i : Instruction) → decode (k ∷ a ∷ b ∷ c ∷ []) ≡ some i → wordsOf i ≡ recordOf (fieldsOf k) k a b c
+  pub decoded-words : (i : Instruction) → decode (k ∷ a ∷ b ∷ c ∷ []) ≡ some i → wordsOf i ≡ recordOf (fieldCountOf k) k a b c
   decoded-words i e = go (decLt 54 k)
     where
-      go : Dec (54 < k) → wordsOf i ≡ recordOf (fieldsOf k) k a b c
+      go : Dec (54 < k) → wordsOf i ≡ recordOf (fieldCountOf k) k a b c
       go (yes h) = let z : _≡_ {A = ℕ} 0 1 = cc (decode-above (k ∷ a ∷ b ∷ c ∷ []) h) in absurd (omega arith)
       go (no h) = Option·some-injective _ _ (rw e at (words-of-decode k a b c (omega arith)))
 
   -- so of records with 0 there decoding is the inverse both ways
-  pub decode-iff : (i : Instruction) → recordOf (fieldsOf k) k a b c ≡ k ∷ a ∷ b ∷ c ∷ [] →
+  pub decode-iff : (i : Instruction) → recordOf (fieldCountOf k) k a b c ≡ k ∷ a ∷ b ∷ c ∷ [] →
       (decode (k ∷ a ∷ b ∷ c ∷ []) ≡ some i) ↔ (wordsOf i ≡ k ∷ a ∷ b ∷ c ∷ [])
   decode-iff i z = (λ e. decoded-words i e ∙ z, λ e. rw e at (decode-words-of i))
 
@@ -178,7 +178,7 @@ offset-word-zero k = (only (ltb k 41) (ltb k 42) (ltb k 44) (ltb k 54) refl refl
     there (inl h) = rw (lt-ltb k 41 h)
     there (inr h) = rw (le-ltb k 41 (omega arith), le-ltb k 42 (omega arith), le-ltb k 44 (omega arith), le-ltb k 54 (omega arith))
 
-put-offset : (w o : ℕ) (ws : List ℕ) → w ≢ 0 → putOffset w o ws ≡ set ws w o
+put-offset : (w o : ℕ) (ws : List ℕ) → w ≢ 0 → setOffset w o ws ≡ set ws w o
 put-offset zero o ws h = absurd (h refl)
 put-offset (suc w) o ws h = refl
 

@@ -76,21 +76,21 @@ abbrev pub withDestination : ℕ → Instruction → Instruction
 withDestination d i = patched (λ _. d) (λ o. o) i
 
 -- how many fields an instruction has
-pub data Fields : Type 0 where
-  one two three : Fields
+pub data FieldCount : Type 0 where
+  one two three : FieldCount
 
 -- "then its fields in declared order"; "unused words are 0 here too": the record of kind k with these fields
-abbrev pub recordOf : Fields → ℕ → ℕ → ℕ → ℕ → List ℕ
+abbrev pub recordOf : FieldCount → ℕ → ℕ → ℕ → ℕ → List ℕ
 recordOf one k a b c = k ∷ a ∷ 0 ∷ 0 ∷ []
 recordOf two k a b c = k ∷ a ∷ b ∷ 0 ∷ []
 recordOf three k a b c = k ∷ a ∷ b ∷ c ∷ []
 
 -- "place in the order of `instruction.rs` from 0 (Add) to 54 (CaptureValue)": the fields of each kind
-abbrev pub fields : List Fields
-fields =
+abbrev pub fieldCounts : List FieldCount
+fieldCounts =
     replicate 23 three ++ replicate 4 two ++ replicate 1 one ++ replicate 8 three ++ replicate 3 two ++ replicate 1 three ++ replicate 2 one
     ++ replicate 2 two ++ replicate 10 three ++ replicate 1 one
 
 -- those of kind k
-abbrev pub fieldsOf : ℕ → Fields
-fieldsOf k = getD fields k one
+abbrev pub fieldCountOf : ℕ → FieldCount
+fieldCountOf k = getD fieldCounts k one

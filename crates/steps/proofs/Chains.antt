@@ -15,7 +15,7 @@ use Rattle.environment.specs.declared.Register.{Register}
 use Rattle.environment.specs.declared.Taken.{Taken}
 use Rattle.environment.specs.Registers.{taken}
 use Rattle.environment.specs.Environment.{found, allocated}
-use Rattle.environment.proofs.Laws.{place-takes, refused}
+use Rattle.environment.proofs.Laws.{place-takes, take-refused}
 use Rattle.runtime.specs.declared.instruction.Instruction.{Instruction}
 use Rattle.runtime.specs.declared.operand.Operand.{Operand}
 use Rattle.runtime.specs.Instruction.{wordsOf}
@@ -23,7 +23,7 @@ use Rattle.runtime.specs.Function.{emitInstruction, storeConstant, maxInstructi
 use Rattle.lowering.specs.Tree.{Tree}
 use Rattle.lowering.specs.Walk.{Made, Outcome, ends, stops, Walk, bind, ret, unnamed}
 use Rattle.lowering.specs.Steps.{withRegisters, withCode, withConstants, withMarks, placed, registered, allocateTemp, emit, store, mark}
-use Rattle.steps.specs.Answers.{registerAt, none, numberAt, settle, settled, seen, isRefusal, valueOf, numberOfRefusal, refusalWord, refusalOf, wordEnd, namesNode, errorAt}
+use Rattle.steps.specs.Answers.{registerAt, none, numberAt, settle, settled, seen, isRefusal, valueOf, numberOfRefusal, refusalAt, refusalOf, wordEnd, namesNode, errorAt}
 use Rattle.steps.proofs.Words.{registerAt-temporary, isRefusal-refusal, valueOf-refusal, numberOfRefusal-refusal, refusal-number, isRefusal-word, valueOf-word}
 
 -- whether an outcome stopped
@@ -81,10 +81,10 @@ module _ (t : Tree) where
   seen-word gives m w h = rw (valueOf-word w h) at (seen-given gives m w (isRefusal-word w h))
 
   pub seen-refusal : {A : Type 0} (gives : ℕ → A) (m : Made) (refusal : Refusal) (place : ℕ) → place < wordEnd →
-      seen t gives m (refusalWord refusal place) ≡ stops (errorAt t refusal place) (settle m)
+      seen t gives m (refusalAt refusal place) ≡ stops (errorAt t refusal place) (settle m)
   seen-refusal gives m refusal place h =
       rw (numberOfRefusal-refusal refusal place h, refusal-number, valueOf-refusal refusal place h) at
-      (seen-stopped gives m (refusalWord refusal place) (isRefusal-refusal refusal place))
+      (seen-stopped gives m (refusalAt refusal place) (isRefusal-refusal refusal place))
 
   module _ {A B : Type 0} (o : Outcome A) (gives : ℕ → A) (m : Made) (a : ℕ) (k : A → Walk B) (e : settled o ≡ seen t gives m a) where
     -- a step that gave: the rest, with what the word gives
@@ -113,7 +113,7 @@ module _ (t : Tree) where
     then-appended h e q = rw (← left, ne-eqb n full h) (rw (e, ne-eqb n full h) at q)
 
     stop-appended : (gives : ℕ → B) → n ≡ full → namesNode refusal ≡ false →
-        settled (bind (placed (after .answer .place) (put (after .words) (after .answer .count))) k) ≡ seen t gives (put ws count) (refusalWord refusal 0)
+        settled (bind (placed (after .answer .place) (put (after .words) (after .answer .count))) k) ≡ seen t gives (put ws count) (refusalAt refusal 0)
     unfolding appended placed bind settled errorAt
     stop-appended gives h u = rw (← left, eq-eqb n full h) (sym (rw u at (seen-refusal gives (put ws count) refusal 0 (omega arith))))
 
@@ -127,7 +127,7 @@ module _ (t : Tree) where
       then-emitted h e q = rw told (then-appended (λ ws count. withCode ws count m) _ code (m .state .instructions) n Refusal.Code k left h e q)
 
       pub stop-emitted : (gives : ℕ → B) → n ≡ full →
-          settled (bind (emit i m) k) ≡ seen t gives (withCode code (m .state .instructions) m) (refusalWord Refusal.Code 0)
+          settled (bind (emit i m) k) ≡ seen t gives (withCode code (m .state .instructions) m) (refusalAt Refusal.Code 0)
       unfolding emit emitInstruction namesNode
       stop-emitted gives h = rw told (stop-appended (λ ws count. withCode ws count m) _ code (m .state .instructions) n Refusal.Code k left gives h refl)
 
@@ -139,7 +139,7 @@ module _ (t : Tree) where
       then-stored = then-appended (λ ws count. withConstants ws count m) _ pool (m .state .constants) n Refusal.Constants k left
 
       pub stop-stored : (gives : ℕ → B) → n ≡ full →
-          settled (bind (store c m) k) ≡ seen t gives (withConstants pool (m .state .constants) m) (refusalWord Refusal.Constants 0)
+          settled (bind (store c m) k) ≡ seen t gives (withConstants pool (m .state .constants) m) (refusalAt Refusal.Constants 0)
       unfolding store namesNode
       stop-stored gives h = stop-appended (λ ws count. withConstants ws count m) _ pool (m .state .constants) n Refusal.Constants k left gives h refl
 
@@ -152,7 +152,7 @@ module _ (t : Tree) where
       then-marked h e q = rw (ne-eqb (m .state .instructions) 0 there) (then-appended (λ ws count. withMarks ws count m) _ marks (m .state .marks) n Refusal.Marks k left h e q)
 
       pub stop-marked : (gives : ℕ → B) → n ≡ full →
-          settled (bind (mark call start end m) k) ≡ seen t gives (withMarks marks (m .state .marks) m) (refusalWord Refusal.Marks 0)
+          settled (bind (mark call start end m) k) ≡ seen t gives (withMarks marks (m .state .marks) m) (refusalAt Refusal.Marks 0)
       unfolding mark namesNode
       stop-marked gives h = rw (ne-eqb (m .state .instructions) 0 there) (stop-appended (λ ws count. withMarks ws count m) _ marks (m .state .marks) n Refusal.Marks k left gives h refl)
 
@@ -170,11 +170,11 @@ module _ (m : Made) {after : Taken} {w : ℕ} (took : after ≡ taken (m .state 
       go (Place.At r) e h = rw (registerAt-temporary r (place-takes (m .state .registers) r e .in-range))
       go (Place.Refused refusal) e h = absurd (h refl)
 
-  pub none-allocated : (t : Tree) → w ≡ none → settled (allocateTemp m) ≡ seen t registerAt m (refusalWord Refusal.Registers 0)
+  pub none-allocated : (t : Tree) → w ≡ none → settled (allocateTemp m) ≡ seen t registerAt m (refusalAt Refusal.Registers 0)
   unfolding allocateTemp allocated found registered numberAt settled errorAt namesNode
   none-allocated t h = rw (← took) (go (after .place) place (sym number ∙ h)) ∙ sym (seen-refusal t registerAt m Refusal.Registers 0 (omega arith))
     where
       go : (p : Place) → taken (m .state .registers) .place ≡ p → numberAt p ≡ none →
           settled (registered (found Register.Temp p) (withRegisters (after .set) m)) ≡ stops (unnamed Refusal.Registers) (settle m)
       go (Place.At r) e h = absurd (omega (arith, place-takes (m .state .registers) r e .in-range))
-      go (Place.Refused refusal) e h = rw (refused (m .state .registers) refusal e .reason)
+      go (Place.Refused refusal) e h = rw (take-refused (m .state .registers) refusal e .reason)

@@ -11,7 +11,7 @@ use Rattle.environment.specs.Registers.{registerCount}
 use Rattle.runtime.specs.Operands.{regOf}
 use Rattle.lowering.specs.Tree.{Tree, spanStart, spanEnd}
 use Rattle.lowering.specs.Walk.{Made, Outcome, ends, stops, error}
-use Rattle.steps.specs.Answers.{registerAt, any, wordEnd, refusalWord, namesNode, errorAt, seen, placeAt, Answer, word, refusal, ToldApart}
+use Rattle.steps.specs.Answers.{registerAt, any, wordEnd, refusalAt, namesNode, errorAt, seen, placeAt, WalkAnswer, word, refusal, ToldApart}
 use Rattle.steps.proofs.Words.{registerAt-temporary, registerAt-past, regOf-registerAt}
 use Rattle.steps.proofs.Chains.{stopped, seen-word, seen-refusal}
 
@@ -38,11 +38,11 @@ stoppedWith other (ends x m) = other
 stoppedWith other (stops e m) = e
 
 module _ {A : Type 0} (t : Tree) (gives : ℕ → A) (m : Made) {Given : ℕ → Type 0} (apart : ToldApart Given gives) where
-  never-both : (v place : ℕ) (why : Refusal) → v < wordEnd → place < wordEnd → seen t gives m v ≡ seen t gives m (refusalWord why place) → ⊥
+  never-both : (v place : ℕ) (why : Refusal) → v < wordEnd → place < wordEnd → seen t gives m v ≡ seen t gives m (refusalAt why place) → ⊥
   unfolding stopped
   never-both v place why h k e = false≢true (ap stopped (sym (seen-word t gives m v h) ∙ e ∙ seen-refusal t gives m why place k))
 
-  pub same-answer : {a b : ℕ} → Answer Given a → Answer Given b → seen t gives m a ≡ seen t gives m b → a ≡ b
+  pub same-answer : {a b : ℕ} → WalkAnswer Given a → WalkAnswer Given b → seen t gives m a ≡ seen t gives m b → a ≡ b
   unfolding endedWith stoppedWith
   same-answer {a} {b} (word g h) (word g′ h′) e =
       apart a b g g′ (ap (endedWith (gives a)) (sym (seen-word t gives m a h) ∙ e ∙ seen-word t gives m b h′))

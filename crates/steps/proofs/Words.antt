@@ -21,7 +21,7 @@ use Rattle.lowering.specs.declared.Dest.{Dest}
 use Rattle.lowering.specs.Literals.{literal}
 use Rattle.lowering.specs.Lower.{source}
 use Rattle.lowering.proofs.Destinations.{literal-source}
-use Rattle.steps.specs.Answers.{registerAt, none, numberAt, any, destOf, literalWord, operandAt, sourceAt, wordEnd, refusalStart, refusalWord, isRefusal, valueOf, numberOfRefusal, refusalOf, isInner, RegisterOrRefusal}
+use Rattle.steps.specs.Answers.{registerAt, none, numberAt, any, destOf, literalWord, operandAt, sourceAt, wordEnd, refusalStart, refusalAt, isRefusal, valueOf, numberOfRefusal, refusalOf, isInner, RegisterOrRefusal}
 
 -- a register
 pub registerAt-temporary : (w : ℕ) → w < 256 → registerAt w ≡ Register.Temp w
@@ -124,24 +124,24 @@ pub refusal-small : (r : Refusal) → refusalNumber r < 20
 refusal-small r = refusal-row r .1
 
 module _ (refusal : Refusal) (place : ℕ) where
-  pub refusal-start : refusalStart ≤ refusalWord refusal place
-  unfolding refusalWord
+  pub refusal-start : refusalStart ≤ refusalAt refusal place
+  unfolding refusalAt
   refusal-start = omega arith
 
-  pub isRefusal-refusal : isRefusal (refusalWord refusal place) ≡ true
+  pub isRefusal-refusal : isRefusal (refusalAt refusal place) ≡ true
   unfolding isRefusal
-  isRefusal-refusal = le-leb refusalStart (refusalWord refusal place) refusal-start
+  isRefusal-refusal = le-leb refusalStart (refusalAt refusal place) refusal-start
 
-  pub isInner-refusal : isInner (refusalWord refusal place) ≡ false
-  unfolding isInner refusalWord
-  isInner-refusal = ne-eqb (refusalWord refusal place / wordEnd) 1 (omega arith)
+  pub isInner-refusal : isInner (refusalAt refusal place) ≡ false
+  unfolding isInner refusalAt
+  isInner-refusal = ne-eqb (refusalAt refusal place / wordEnd) 1 (omega arith)
 
-  pub valueOf-refusal : place < wordEnd → valueOf (refusalWord refusal place) ≡ place
-  unfolding refusalWord
+  pub valueOf-refusal : place < wordEnd → valueOf (refusalAt refusal place) ≡ place
+  unfolding refusalAt
   valueOf-refusal h = omega arith
 
-  pub numberOfRefusal-refusal : place < wordEnd → numberOfRefusal (refusalWord refusal place) ≡ refusalNumber refusal
-  unfolding refusalWord
+  pub numberOfRefusal-refusal : place < wordEnd → numberOfRefusal (refusalAt refusal place) ≡ refusalNumber refusal
+  unfolding refusalAt
   numberOfRefusal-refusal h = omega arith
 
 -- a word of 32 bits, and a node left to the walk

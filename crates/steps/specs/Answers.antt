@@ -60,8 +60,8 @@ sourceAt c w = cond (eqb w literalWord) (constant c) (register (registerAt w))
 abbrev pub refusalStart : ℕ
 refusalStart = 9223372036854775808
 
-unfoldable pub refusalWord : Refusal → ℕ → ℕ
-refusalWord refusal place = refusalStart + wordEnd * refusalNumber refusal + place
+unfoldable pub refusalAt : Refusal → ℕ → ℕ
+refusalAt refusal place = refusalStart + wordEnd * refusalNumber refusal + place
 
 unfoldable pub isRefusal : ℕ → Bool
 isRefusal a = leb refusalStart a
@@ -115,14 +115,14 @@ unfoldable pub settled : {A : Type 0} → Outcome A → Outcome A
 settled (ends x m) = ends x m
 settled (stops e m) = stops e (settle m)
 
--- an answer and what is left, as an outcome; `gives` reads the word. Numbers that are no `Answer` may be read alike.
+-- an answer and what is left, as an outcome; `gives` reads the word. Numbers that are no `WalkAnswer` may be read alike.
 unfoldable pub seen : {A : Type 0} → Tree → (ℕ → A) → Made → ℕ → Outcome A
 seen t gives m a = cond (isRefusal a) (stops (errorAt t (refusalOf (numberOfRefusal a)) (valueOf a)) (settle m)) (ends (gives (valueOf a)) m)
 
 -- the answers of a step, by the words that it may give: one of these, or a refusal at a place
-pub data Answer (Given : ℕ → Type 0) : ℕ → Type 0 where
-  word : {w : ℕ} → Given w → w < wordEnd → Answer Given w
-  refusal : (why : Refusal) {place : ℕ} → place < wordEnd → Answer Given (refusalWord why place)
+pub data WalkAnswer (Given : ℕ → Type 0) : ℕ → Type 0 where
+  word : {w : ℕ} → Given w → w < wordEnd → WalkAnswer Given w
+  refusal : (why : Refusal) {place : ℕ} → place < wordEnd → WalkAnswer Given (refusalAt why place)
 
 -- words that are told apart by what they give
 abbrev pub ToldApart : {A : Type 0} → (ℕ → Type 0) → (ℕ → A) → Type 0
@@ -140,8 +140,8 @@ unfoldable pub isInner : ℕ → Bool
 isInner a = eqb (a / wordEnd) 1
 
 -- the state with these counts of instructions and constants
-abbrev pub counted : RegisterSet → ℕ → ℕ → ℕ → State
-counted registers instructions constants marks = record { registers = registers; instructions = instructions; constants = constants; marks = marks }
+abbrev pub stateOf : RegisterSet → ℕ → ℕ → ℕ → State
+stateOf registers instructions constants marks = record { registers = registers; instructions = instructions; constants = constants; marks = marks }
 
 -- an answer that is a refusal, or the register d
 abbrev pub DestOrRefusal : ℕ → ℕ → Type 0

@@ -4,7 +4,7 @@ ghost use mathlib.Core.Path.{_≡_};
 ghost use Prim.Native.Nat.{_+_, _%_};
 ghost use Rattle.environment.specs.Registers.{registerCount};
 ghost use Rattle.runtime.specs.Operands.{regOf};
-ghost use Rattle.steps.specs.Answers.{registerAt, numberAt, wordEnd, refusalWord, isRefusal, valueOf, numberOfRefusal, isInner};
+ghost use Rattle.steps.specs.Answers.{registerAt, numberAt, wordEnd, refusalAt, isRefusal, valueOf, numberOfRefusal, isInner};
 use diagnostics::Place;
 use diagnostics::Refusal;
 use environment::REGISTERS;
@@ -12,13 +12,13 @@ use lowering::State;
 use words::WORD_END;
 
 // The state afterwards, and the answer.
-pub struct Lowered {
+pub struct AnswerAndState {
     pub state: State,
     pub answer: u64,
 }
 
 // The counts afterwards, and the answer, of a step that takes and gives back no register.
-pub struct Emitted {
+pub struct AnswerAndCounts {
     pub instructions: u32,
     pub constants: u32,
     pub answer: u64,
@@ -74,7 +74,7 @@ pub fn is_inner(answer: u64) -> bool
 }
 
 pub fn refusal_at(refusal: Refusal, place: u32) -> u64
-    ensures { λ r. ⌜ r ≡ refusalWord refusal place ⌝ }
+    ensures { λ r. ⌜ r ≡ refusalAt refusal place ⌝ }
 {
     REFUSED + WORD_END * (refusal.number() as u64) + (place as u64)
 }
@@ -103,21 +103,21 @@ pub fn value_of(answer: u64) -> u32
     (answer % WORD_END) as u32
 }
 
-pub fn answered(state: State, value: u32) -> Lowered
+pub fn answered(state: State, value: u32) -> AnswerAndState
     ensures state { λ r. ⌜ r .state ≡ state ⌝ }
     ensures answer { λ r. ⌜ r .answer ≡ value ⌝ }
 {
-    Lowered {
+    AnswerAndState {
         state,
         answer: value as u64,
     }
 }
 
-pub fn refused(state: State, refusal: Refusal, place: u32) -> Lowered
+pub fn refused(state: State, refusal: Refusal, place: u32) -> AnswerAndState
     ensures state { λ r. ⌜ r .state ≡ state ⌝ }
-    ensures answer { λ r. ⌜ r .answer ≡ refusalWord refusal place ⌝ }
+    ensures answer { λ r. ⌜ r .answer ≡ refusalAt refusal place ⌝ }
 {
-    Lowered {
+    AnswerAndState {
         state,
         answer: refusal_at(refusal, place),
     }

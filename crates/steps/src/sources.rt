@@ -23,9 +23,9 @@ ghost use Rattle.lowering.specs.Walk.{Walk, made, bind, ret};
 ghost use Rattle.lowering.specs.Steps.{emit};
 ghost use Rattle.lowering.specs.Operators.{comparison};
 ghost use Rattle.lowering.specs.Lower.{binarySources, fusedSources};
-ghost use Rattle.operators.specs.Opcodes.{first, second};
-ghost use Rattle.steps.specs.Answers.{registerAt, literalWord, sourceAt, placeAt, settled, seen, counted, refusalWord, DestOrRefusal, WordOrRefusal};
-use crate::answer::Emitted;
+ghost use Rattle.operators.specs.Opcodes.{firstOf, secondOf};
+ghost use Rattle.steps.specs.Answers.{registerAt, literalWord, sourceAt, placeAt, settled, seen, stateOf, refusalAt, DestOrRefusal, WordOrRefusal};
+use crate::answer::AnswerAndCounts;
 use crate::answer::LITERAL;
 use crate::answer::refusal_at;
 use crate::answer::reg_of;
@@ -47,16 +47,16 @@ use words::counted;
 
 // The first of two operands in the order in which an instruction has them; the second is the first of the two the other way round.
 pub fn first_of(swap: bool, a: u32, b: u32) -> u32
-    ensures { λ r. ⌜ r ≡ first swap a b ⌝ }
+    ensures { λ r. ⌜ r ≡ firstOf swap a b ⌝ }
 {
     if swap { b } else { a }
 }
 
 // No room for an instruction or a constant: nothing is written.
-fn no_room(instructions: u32, pooled: u32, refusal: Refusal) -> Emitted
-    ensures { λ r. ⌜ r ≡ record { instructions = instructions; constants = pooled; answer = refusalWord refusal 0 } ⌝ }
+fn no_room(instructions: u32, pooled: u32, refusal: Refusal) -> AnswerAndCounts
+    ensures { λ r. ⌜ r ≡ record { instructions = instructions; constants = pooled; answer = refusalAt refusal 0 } ⌝ }
 {
-    Emitted {
+    AnswerAndCounts {
         instructions,
         constants: pooled,
         answer: refusal_at(refusal, 0),
@@ -73,11 +73,11 @@ fn binary_end(
     src1: u32,
     src2: u32,
     d: u32,
-) -> Emitted
+) -> AnswerAndCounts
     ensures step { λ r. ⌜ ((t : Tree) (i : Instruction) (rs : RegisterSet) (n : ℕ) (p m : List ℕ) →
-        wordsOf i ≡ opcode ∷ regOf (registerAt d) ∷ first swap src1 src2 ∷ second swap src1 src2 ∷ [] →
-        settled (bind (emit i (made (words (now (code .entry))) p m (counted rs instructions pooled n))) (λ x. ret (Operand.Register (registerAt d))))
-        ≡ seen t (λ w. Operand.Register (registerAt w)) (made (words (now (code .exit))) p m (counted rs (r .instructions) (r .constants) n)) (r .answer)) ⌝ }
+        wordsOf i ≡ opcode ∷ regOf (registerAt d) ∷ firstOf swap src1 src2 ∷ secondOf swap src1 src2 ∷ [] →
+        settled (bind (emit i (made (words (now (code .entry))) p m (stateOf rs instructions pooled n))) (λ x. ret (Operand.Register (registerAt d))))
+        ≡ seen t (λ w. Operand.Register (registerAt w)) (made (words (now (code .exit))) p m (stateOf rs (r .instructions) (r .constants) n)) (r .answer)) ⌝ }
     ensures code { λ r. ⌜ tail (now (code .exit)) ≡ tail (now (code .entry)) ⌝ }
     ensures word { λ r. ⌜ DestOrRefusal d (r .answer) ⌝ }
 {
@@ -88,7 +88,7 @@ fn binary_end(
         return no_room(instructions, pooled, Refusal::Code);
     }
     let count = counted(instructions, n);
-    Emitted {
+    AnswerAndCounts {
         instructions: count,
         constants: pooled,
         answer: d as u64,
@@ -106,11 +106,11 @@ pub fn binary_sources(
     src2: u32,
     constant: Operand,
     d: u32,
-) -> Emitted
+) -> AnswerAndCounts
     ensures step { λ r. ⌜ ((t : Tree) (E : ℕ → Dest → Walk Operand) (left right : ℕ) (rs : RegisterSet) (n : ℕ) (m : List ℕ) → eqb src1 literalWord && eqb src2 literalWord ≡ false →
         settled (binarySources (λ x. ret tt) t E (binaryOp operator) left right (registerAt d) (sourceAt constant src1) (sourceAt constant src2)
-        (made (words (now (code .entry))) (words (now (constants .entry))) m (counted rs instructions pooled n)))
-        ≡ seen t (λ w. Operand.Register (registerAt w)) (made (words (now (code .exit))) (words (now (constants .exit))) m (counted rs (r .instructions) (r .constants) n)) (r .answer)) ⌝ }
+        (made (words (now (code .entry))) (words (now (constants .entry))) m (stateOf rs instructions pooled n)))
+        ≡ seen t (λ w. Operand.Register (registerAt w)) (made (words (now (code .exit))) (words (now (constants .exit))) m (stateOf rs (r .instructions) (r .constants) n)) (r .answer)) ⌝ }
     ensures code { λ r. ⌜ tail (now (code .exit)) ≡ tail (now (code .entry)) ⌝ }
     ensures constants { λ r. ⌜ tail (now (constants .exit)) ≡ tail (now (constants .entry)) ⌝ }
     ensures word { λ r. ⌜ DestOrRefusal d (r .answer) ⌝ }
@@ -157,10 +157,17 @@ pub fn binary_sources(
 }
 
 // A fused jump. Its place is the answer.
-fn jump_end(code: &mut [u8], instructions: u32, pooled: u32, opcode: u32, a: u32, b: u32) -> Emitted
+fn jump_end(
+    code: &mut [u8],
+    instructions: u32,
+    pooled: u32,
+    opcode: u32,
+    a: u32,
+    b: u32,
+) -> AnswerAndCounts
     ensures step { λ r. ⌜ ((t : Tree) (i : Instruction) (rs : RegisterSet) (n : ℕ) (p m : List ℕ) → wordsOf i ≡ opcode ∷ a ∷ b ∷ 0 ∷ [] →
-        settled (emit i (made (words (now (code .entry))) p m (counted rs instructions pooled n)))
-        ≡ seen t placeAt (made (words (now (code .exit))) p m (counted rs (r .instructions) (r .constants) n)) (r .answer)) ⌝ }
+        settled (emit i (made (words (now (code .entry))) p m (stateOf rs instructions pooled n)))
+        ≡ seen t placeAt (made (words (now (code .exit))) p m (stateOf rs (r .instructions) (r .constants) n)) (r .answer)) ⌝ }
     ensures code { λ r. ⌜ tail (now (code .exit)) ≡ tail (now (code .entry)) ⌝ }
     ensures word { λ r. ⌜ WordOrRefusal (r .answer) ⌝ }
 {
@@ -169,7 +176,7 @@ fn jump_end(code: &mut [u8], instructions: u32, pooled: u32, opcode: u32, a: u32
         return no_room(instructions, pooled, Refusal::Code);
     }
     let count = counted(instructions, n);
-    Emitted {
+    AnswerAndCounts {
         instructions: count,
         constants: pooled,
         answer: n as u64,
@@ -187,12 +194,12 @@ pub fn fused_sources(
     src1: u32,
     src2: u32,
     constant: Operand,
-) -> Emitted
+) -> AnswerAndCounts
     ensures step { λ r. ⌜ ((t : Tree) (E : ℕ → Dest → Walk Operand) (own : Dest → Walk Operand) (c : Comparison) (rs : RegisterSet) (n : ℕ) (m : List ℕ) →
         eqb src1 literalWord && eqb src2 literalWord ≡ false → comparison (binaryOp operator) ≡ some c →
         settled (fusedSources t E sense own c (sourceAt constant src1) (sourceAt constant src2)
-        (made (words (now (code .entry))) (words (now (constants .entry))) m (counted rs instructions pooled n)))
-        ≡ seen t placeAt (made (words (now (code .exit))) (words (now (constants .exit))) m (counted rs (r .instructions) (r .constants) n)) (r .answer)) ⌝ }
+        (made (words (now (code .entry))) (words (now (constants .entry))) m (stateOf rs instructions pooled n)))
+        ≡ seen t placeAt (made (words (now (code .exit))) (words (now (constants .exit))) m (stateOf rs (r .instructions) (r .constants) n)) (r .answer)) ⌝ }
     ensures code { λ r. ⌜ tail (now (code .exit)) ≡ tail (now (code .entry)) ⌝ }
     ensures constants { λ r. ⌜ tail (now (constants .exit)) ≡ tail (now (constants .entry)) ⌝ }
     ensures word { λ r. ⌜ WordOrRefusal (r .answer) ⌝ }

@@ -6,10 +6,10 @@ ghost use Prim.Native.Nat.{ℕ, _-_, _≤_};
 ghost use Rattle.words.specs.Words.{words, tail};
 ghost use Rattle.lowering.specs.Tree.{Tree};
 ghost use Rattle.lowering.specs.Walk.{made};
-ghost use Rattle.lowering.specs.Steps.{destination, loadConstant, withOffset};
+ghost use Rattle.lowering.specs.Steps.{destination, loadConstant, putOffset};
 ghost use Rattle.steps.specs.Answers.{registerAt, any, destOf, settled, seen, RegisterOrRefusal};
 use crate::answer::ANY;
-use crate::answer::Lowered;
+use crate::answer::AnswerAndState;
 use crate::answer::NONE;
 use crate::answer::answered;
 use crate::answer::is_refusal;
@@ -18,8 +18,8 @@ use crate::answer::refused;
 use crate::answer::reg_of;
 use crate::answer::value_of;
 use diagnostics::Refusal;
-use lower_ast::put_offset;
 use lowering::State;
+use patch::put_offset;
 use runtime::function::emit_instruction;
 use runtime::function::store_constant;
 use runtime::opcode;
@@ -28,7 +28,7 @@ use words::FULL;
 use words::counted;
 
 // The register asked for, else the smallest free one, which is taken.
-pub fn destination(state: State, dest: u32) -> Lowered
+pub fn destination(state: State, dest: u32) -> AnswerAndState
     ensures step { λ r. ⌜ ((t : Tree) (k p m : List ℕ) → settled (destination (destOf dest) (made k p m state)) ≡ seen t registerAt (made k p m (r .state)) (r .answer)) ⌝ }
     ensures word { λ r. ⌜ (dest ≤ any → RegisterOrRefusal (r .answer)) ⌝ }
 {
@@ -55,7 +55,7 @@ pub fn load_constant(
     state: State,
     constant: Operand,
     dest: u32,
-) -> Lowered
+) -> AnswerAndState
     ensures step { λ r. ⌜ ((t : Tree) (m : List ℕ) → settled (loadConstant constant (destOf dest) (made (words (now (code .entry))) (words (now (constants .entry))) m state))
         ≡ seen t registerAt (made (words (now (code .exit))) (words (now (constants .exit))) m (r .state)) (r .answer)) ⌝ }
     ensures code { λ r. ⌜ tail (now (code .exit)) ≡ tail (now (code .entry)) ⌝ }
@@ -93,7 +93,7 @@ fn distance(place: u32, next: u32) -> u32
 
 // The jump at `place` goes to the instruction `next`.
 pub fn patch_to_next(code: &mut [u8], place: u32, next: u32)
-    ensures words { λ _. ⌜ words (now (code .exit)) ≡ withOffset (words (now (code .entry))) place (next - place) ⌝ }
+    ensures words { λ _. ⌜ words (now (code .exit)) ≡ putOffset (words (now (code .entry))) place (next - place) ⌝ }
     ensures tail { λ _. ⌜ tail (now (code .exit)) ≡ tail (now (code .entry)) ⌝ }
 {
     put_offset(code, place, distance(place, next));

@@ -234,12 +234,12 @@ module _ (s : List ℕ) (told first : ℕ) where
   none-left at i l = let z : told - i ≡ 0 = omega arith in rw z
 
   -- what a replay that ends there gives is what the record's cases give
-  abbrev pub Gives : ℕ → ℕ → ℕ → Type 0
-  Gives at found count = (record { cases = told; agreeing = count; differing = found; end = at } ≡ outcome s) × (found ≤ length s)
+  abbrev pub ReplayGives : ℕ → ℕ → ℕ → Type 0
+  ReplayGives at found count = (record { cases = told; agreeing = count; differing = found; end = at } ≡ outcome s) × (found ≤ length s)
 
   -- so it is where nothing is left to be replayed
   module _ (told-so : told ≡ casesTold s) (first-so : first ≡ firstAt s) (begins : first ≤ length s) {at found count i : ℕ} (r : Replayed at found count i) where
-    finished : left at i ≡ [] → Gives at found count
+    finished : left at i ≡ [] → ReplayGives at found count
     unfolding agreeing differing endOf outcome
     finished empty =
         let counted : count ≡ agreeing s all = let z : agreeing s (left at i) ≡ 0 = rw empty in omega (arith, r .counts) in
@@ -252,8 +252,8 @@ module _ (s : List ℕ) (told first : ℕ) where
         go z (yes e) = r .none e .0 ∙ sym z ∙ r .none e .1
         go z (no n) = r .once n
 
-    pub all-replayed : told ≤ i → Gives at found count
+    pub all-replayed : told ≤ i → ReplayGives at found count
     all-replayed l = finished (none-left at i l)
 
-    pub rest-cut : {c : Case} → c ≡ caseAt s at → length s < c .next → Gives at found count
+    pub rest-cut : {c : Case} → c ≡ caseAt s at → length s < c .next → ReplayGives at found count
     rest-cut is l = finished (cases-cut s at (told - i) (rw is at l))

@@ -88,8 +88,8 @@ casesFrom zero s at = []
 casesFrom (suc n) s at = cond (leb (caseAt s at .next) (length s)) (at ∷ casesFrom n s (caseAt s at .next)) []
 
 -- where the lines of the record's cases begin
-abbrev pub cases : List ℕ → List ℕ
-cases s = casesFrom (casesTold s) s (firstAt s)
+abbrev pub caseStarts : List ℕ → List ℕ
+caseStarts s = casesFrom (casesTold s) s (firstAt s)
 
 -- ---- the replay
 
@@ -120,7 +120,7 @@ unfoldable pub outcome : List ℕ → Outcome
 outcome s =
     record {
       cases = casesTold s;
-      agreeing = agreeing s (cases s);
-      differing = differing s (cases s);
-      end = endOf s (firstAt s) (cases s);
+      agreeing = agreeing s (caseStarts s);
+      differing = differing s (caseStarts s);
+      end = endOf s (firstAt s) (caseStarts s);
     }

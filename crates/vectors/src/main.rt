@@ -7,12 +7,12 @@ ghost use Rattle.listing.specs.Output.{lowerlist};
 ghost use Rattle.vectors.specs.Answers.{recordBytes, lineEnd, commentsEnd, number, caseAt, outcome};
 use check::same;
 use libc::STDOUT_FILENO;
-use lister::list;
-use lister::listing_buffer;
 use listing::column::COLUMN_BYTES;
 use listing::column::Column;
 use listing::column::read_column;
 use listing::text::LINE_FEED;
+use lower_text::list;
+use lower_text::listing_buffer;
 
 // More bytes than the record has. A record that fills the buffer is cut, and its last cases do not agree.
 const RECORD_BYTES: usize = 1572864;

@@ -2,7 +2,7 @@
 use mathlib.Core.Path.{refl, sym}
 use native.Mathlib.Omega.{arith}
 use lib.Seq.{length-take-le}
-use Rattle.codegen.proofs.Laws.{few, ready, lowered}
+use Rattle.codegen.proofs.Laws.{few, ready, lowered-numbers}
 use borrow.Author.Needs.{needs}
 use Rattle.codegen.proofs.lower_checked.Statement.{statement}
 use Rattle.codegen.proofs.lower_checked.Tie as tie
@@ -61,7 +61,7 @@ returns : tie.Need-returns
 returns c =
     let at-lowered = c .before .before .before .before .before .before .before in
     let at-parameters = at-lowered .before .before .before .before in
-    lowered _ _ _ _ _ (at-parameters .before .before .before .before .before .before .before .pre)
+    lowered-numbers _ _ _ _ _ (at-parameters .before .before .before .before .before .before .before .pre)
     (record { size = refl; same = at-lowered .lower-root .kept .1 .1 .1 .0; byte = λ i. c .before .before .before .before .before .slice-known4 .given i .fits })
     (record { size = refl; same = at-lowered .lower-root .kept .1 .1 .1 .1 .0; byte = λ i. c .before .before .before .slice-known5 .given i .fits })
     (record { size = refl; same = at-lowered .lower-root .kept .1 .1 .1 .1 .1 .0; byte = λ i. c .before .slice-known6 .given i .fits })

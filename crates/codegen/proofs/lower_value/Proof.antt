@@ -82,7 +82,7 @@ returns-3 c =
     let value = register-of checked (f .1 .1) (r .0) (r .1) (λ h. f .1 .0 _ _ checked h refl) in
     then-by t _ _ _ _ _ value (at-is-refusal .is-refusal .ensures) (at-if1 .if1 .left) (at-value-of .value-of .ensures)
     (then-emitted t _ _ _ (Instruction.Return _) (rw (at-reg-of .reg-of .ensures)) (at-emit-instruction .emit-instruction .ensures .0) (at-if2 .if2 .left) (at-counted .counted .ensures _)
-    (at-patched .patched .ensures .0 _ _))
+    (at-patched .patch-and-answer .ensures .0 _ _))
 
 same-length-4 : tie.Need-same-length-4
 same-length-4 c =
@@ -107,7 +107,7 @@ same-length-7 c =
     let then1 = at-emit-instruction .before .before .before .before .before .before .before .before in
     let at-lower-materializing = then1 .before .before .before .before .before in
     let at-peek = at-lower-materializing .before .before .before .before .before .before .before .before in
-    at-patched .patched .kept .0 ∙ at-emit-instruction .emit-instruction .kept .0 ∙ at-lower-materializing .lower-materializing .kept .1 .1 .1 .0 ∙ at-peek .peek .kept .1 .1 .0
+    at-patched .patch-and-answer .kept .0 ∙ at-emit-instruction .emit-instruction .kept .0 ∙ at-lower-materializing .lower-materializing .kept .1 .1 .1 .0 ∙ at-peek .peek .kept .1 .1 .0
 
 same-length-8 : tie.Need-same-length-8
 same-length-8 c =

@@ -21,7 +21,7 @@ use Rattle.lowering.specs.Checked.{Checked, Below, CallBelow, MapBelow}
 use Rattle.lowering.specs.Walk.{Walk}
 use Rattle.lowering.specs.Operators.{comparison}
 use Rattle.lowering.specs.Steps.{freeTemp}
-use Rattle.lowering.specs.Lower.{Source, register, constant, nameOf, binarySources, lowerArguments, storeNamed, storeKeyed, lowerEntry, lowerEntries, lowerElse, lowerTail, lowerNode, tested, fusedSources, fused, jumpNode, expressionBelow, jumpBelow, lowerExpression, lowerJumpIfFalse, lowerJumpIfTrue}
+use Rattle.lowering.specs.Lower.{Source, register, constant, nameOf, binarySources, lowerArguments, storeNamed, storeKeyed, lowerEntry, lowerEntries, lowerElse, lowerTail, lowerNode, test, fusedSources, fuse, jumpNode, expressionBelow, jumpBelow, lowerExpression, lowerJumpIfFalse, lowerJumpIfTrue}
 use Rattle.lowering.proofs.Questions.Checked.{checked-below}
 
 -- two ways to lower a child that agree below node i
@@ -124,20 +124,20 @@ module _ (t : Tree) (E F : ℕ → Dest → Walk Operand) (i : ℕ) (same : (n :
 
   fusedSources-same : (sense : Bool) (own : Dest → Walk Operand) (c : Comparison) (a b : Source) →
       fusedSources t E sense own c a b ≡ fusedSources t F sense own c a b
-  unfolding fusedSources tested
+  unfolding fusedSources test
   fusedSources-same sense own c (register a) (register b) = refl
   fusedSources-same sense own c (register a) (constant b) = refl
   fusedSources-same sense own c (constant a) (register b) = refl
   fusedSources-same sense own c (constant a) (constant b) = refl
 
   fused-same : (sense : Bool) (own : Dest → Walk Operand) (c : Option Comparison) (left right : ℕ) → left < i → right < i →
-      fused t E sense own c left right ≡ fused t F sense own c left right
-  unfolding fused tested
+      fuse t E sense own c left right ≡ fuse t F sense own c left right
+  unfolding fuse test
   fused-same sense own none left right l r = refl
   fused-same sense own (some c) left right l r = rw (same left l, same right r) (simp fusedSources-same)
 
   jumpNode-same : (sense : Bool) (own : Dest → Walk Operand) (n : Node) → Below t i n → jumpNode t E sense own n ≡ jumpNode t F sense own n
-  unfolding jumpNode tested
+  unfolding jumpNode test
   jumpNode-same sense own (Node.Number low high) b = refl
   jumpNode-same sense own (Node.String symbol) b = refl
   jumpNode-same sense own (Node.Boolean v) b = refl

@@ -82,22 +82,22 @@ module _ (i : ℕ) where
       rw two (below-value ns (below-after value _ (below-rest key _ h)) k (omega arith))
 
 -- what questions 5 and 6 say of a node, by how many words the list has
-abbrev pub Fits : ℕ → Node → Type 0
-Fits size (Node.Number low high) = (nanBits binary64 (4294967296 * high + low) ≡ false) × ((eqb low 0 && eqb high 2147483648) ≡ false)
-Fits size (Node.String symbol) = Unit {0}
-Fits size (Node.Boolean b) = Unit {0}
-Fits size Node.Nil = Unit {0}
-Fits size (Node.Identifier symbol) = Unit {0}
-Fits size (Node.Binary operator left right) = Unit {0}
-Fits size (Node.Unary operator operand) = Unit {0}
-Fits size (Node.LogicalNot operand) = Unit {0}
-Fits size (Node.LogicalAnd left right) = Unit {0}
-Fits size (Node.LogicalOr left right) = Unit {0}
-Fits size (Node.If condition thenBranch elseBranch) = Unit {0}
-Fits size (Node.Block tail) = Unit {0}
-Fits size (Node.FunctionCall callee first count) = (first + count ≤ size) × (count ≤ 255)
-Fits size (Node.PropertyAccess object property) = Unit {0}
-Fits size (Node.Map first count) = first + 2 * count ≤ size
+abbrev pub InRange : ℕ → Node → Type 0
+InRange size (Node.Number low high) = (nanBits binary64 (4294967296 * high + low) ≡ false) × ((eqb low 0 && eqb high 2147483648) ≡ false)
+InRange size (Node.String symbol) = Unit {0}
+InRange size (Node.Boolean b) = Unit {0}
+InRange size Node.Nil = Unit {0}
+InRange size (Node.Identifier symbol) = Unit {0}
+InRange size (Node.Binary operator left right) = Unit {0}
+InRange size (Node.Unary operator operand) = Unit {0}
+InRange size (Node.LogicalNot operand) = Unit {0}
+InRange size (Node.LogicalAnd left right) = Unit {0}
+InRange size (Node.LogicalOr left right) = Unit {0}
+InRange size (Node.If condition thenBranch elseBranch) = Unit {0}
+InRange size (Node.Block tail) = Unit {0}
+InRange size (Node.FunctionCall callee first count) = (first + count ≤ size) × (count ≤ 255)
+InRange size (Node.PropertyAccess object property) = Unit {0}
+InRange size (Node.Map first count) = first + 2 * count ≤ size
 
 -- a node by its words: kind, a, b and c
 abbrev pub nodeOf : ℕ → ℕ → ℕ → ℕ → Node
@@ -121,7 +121,7 @@ unfolding question6
 map-fits size first count c h = leb-true _ _ h
 
 -- kinds 0 to 14, and those past them
-words-fit : (size kind a b c : ℕ) → question5 kind a b ≡ true → question6 size kind a b c ≡ true → Fits size (nodeOf kind a b c)
+words-fit : (size kind a b c : ℕ) → question5 kind a b ≡ true → question6 size kind a b c ≡ true → InRange size (nodeOf kind a b c)
 words-fit size zero a b c n l = number-fits a b n
 words-fit size (suc zero) a b c n l = tt
 words-fit size (suc (suc zero)) a b c n l = tt
@@ -141,7 +141,7 @@ words-fit size (suc (suc (suc (suc (suc (suc (suc (suc (suc (suc (suc (suc (suc 
 
 -- what question 7 adds
 module _ (t : Tree) (i : ℕ) where
-  node-below : (n : Node) → allBelow i (children (t .list) n) ≡ true → Fits (length (t .list)) n → Below t i n
+  node-below : (n : Node) → allBelow i (children (t .list) n) ≡ true → InRange (length (t .list)) n → Below t i n
   unfolding children
   node-below (Node.Number low high) h f = tt
   node-below (Node.String symbol) h f = tt
@@ -185,7 +185,7 @@ module _ (t : Tree) (i : ℕ) where
 
 module _ {t : Tree} where
   -- of a node whose questions are answered yes
-  pub node-fits : {i : ℕ} → CheckedNode t i → Fits (length (t .list)) (node t i)
+  pub node-fits : {i : ℕ} → CheckedNode t i → InRange (length (t .list)) (node t i)
   unfolding nodeAt
   node-fits {i} c = words-fit (length (t .list)) (nodeWord (t .nodes) i 0) _ _ _ (c .number) (c .list)
 
@@ -226,7 +226,7 @@ module _ {t : Tree} where
   pub checked-below : Checked t → (i : ℕ) → Below t i (node t i)
   checked-below c i = checked-node-below (checked-at c i)
 
-  pub checked-fits : Checked t → (i : ℕ) → Fits (length (t .list)) (node t i)
+  pub checked-fits : Checked t → (i : ℕ) → InRange (length (t .list)) (node t i)
   checked-fits c i = node-fits (checked-at c i)
 
 -- question 1 answered yes, by its parts: of the bytes, and of the words

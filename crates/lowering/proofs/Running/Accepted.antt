@@ -14,8 +14,8 @@ use Rattle.lowering.specs.Tree.{treeOf, Tree}
 use Rattle.lowering.specs.Questions.{Verdict, passed, refused, questions}
 use Rattle.lowering.specs.Walk.{Made, Outcome, ends, stops}
 use Rattle.lowering.specs.Steps.{freeTemp}
-use Rattle.lowering.specs.Result.{result, begin, lowerRoot, answered, lowerChecked, lower}
-use Rattle.lowering.specs.Law.{Accepted, instructions, StandsIn, Setting, Start, LawOf, RunningLaw, alone}
+use Rattle.lowering.specs.Result.{result, begin, lowerRoot, loweredOf, lowerChecked, lower}
+use Rattle.lowering.specs.Law.{Accepted, instructions, StandsIn, Setting, Start, LawOf, RunningLaw, asLowered}
 use Rattle.lowering.proofs.Questions.Passed.{few-parameters}
 use Rattle.lowering.proofs.Running.Law.{runs, exactly, once, parameters, short, defined}
 
@@ -64,7 +64,7 @@ module _ (a : Accepted) where
     order = s .order;
   }
 
-  pub alone-holds : LawOf (a .tree) (a .root) (alone a)
+  pub alone-holds : LawOf (a .tree) (a .root) (asLowered a)
   unfolding setting
   alone-holds = record {
     runs = λ s. runs a (setting s);
@@ -79,7 +79,7 @@ module _ (a : Accepted) where
 
 -- what was accepted, and what it left
 pub running-law : RunningLaw
-unfolding lower lowerChecked answered
+unfolding lower lowerChecked loweredOf
 running-law nodes list names root code constants marks plain e =
     by-verdict (questions nodes list names 0 root) refl e
   where
@@ -89,8 +89,8 @@ running-law nodes list names root code constants marks plain e =
     start : Made
     start = begin code constants marks 0 (length (words names))
 
-    by-outcome : (o : Outcome ℕ) → lowerRoot freeTemp t 0 root start ≡ o → length (words names) ≤ 256 → answered (length (words names)) o .result .number ≡ 0 →
-        LawOf t root (answered (length (words names)) o)
+    by-outcome : (o : Outcome ℕ) → lowerRoot freeTemp t 0 root start ≡ o → length (words names) ≤ 256 → loweredOf (length (words names)) o .result .number ≡ 0 →
+        LawOf t root (loweredOf (length (words names)) o)
     by-outcome (ends place m) q few z = alone-holds (record {
       tree = t;
       root = root;

@@ -17,12 +17,12 @@ use Rattle.runtime.specs.Instruction.{instructionWidth, decode}
 use Rattle.lowering.specs.Tree.{Tree, treeOf}
 use Rattle.lowering.specs.Checked.{AllYes}
 use Rattle.lowering.specs.Walk.{Made, Outcome, ends, stops}
-use Rattle.lowering.specs.Steps.{freeTemp, withOffset}
+use Rattle.lowering.specs.Steps.{freeTemp, putOffset}
 use Rattle.lowering.specs.Questions.{Verdict, passed, refused, questions}
-use Rattle.lowering.specs.Result.{Lowered, result, leaves, begin, lowerRoot, answered, lowerChecked, lower, patchJump}
-use Rattle.lowering.specs.Meaning.{val, fail, Operators, Worth, worth, fails, undefined, given, worthAt}
-use Rattle.lowering.specs.Machine.{recordIn, fetch, constantAt, constantOf, target, Ending, returned, failed, lost, Registers, Now, ended, stepAt, step, after}
-use Rattle.lowering.specs.Conditions.{modeOf, Entry, Goal, behind, testOf, runTo, LeftBy, UpTo, Exactly, ConditionOf, ConditionLaw}
+use Rattle.lowering.specs.Result.{Lowered, result, lowered, begin, lowerRoot, loweredOf, lowerChecked, lower, patchJump}
+use Rattle.lowering.specs.Meaning.{val, fail, Operators, Evaluation, evaluates, fails, undefined, given, valueAt}
+use Rattle.lowering.specs.Machine.{recordIn, fetch, constantAt, constantOf, target, Ending, returned, failed, lost, Registers, Now, ended, stepAt, machineStep, after}
+use Rattle.lowering.specs.Conditions.{modeOf, Entry, Goal, codeEnd, testOf, runTo, LeftBy, UpTo, Exactly, ConditionOf, ConditionLaw}
 use Rattle.lowering.specs.Trace.{JumpKind}
 use Rattle.lowering.specs.Answers.{MayPatch}
 use Rattle.lowering.proofs.Running.Steps.{Holds, holds-ends, count, Room, kind-is, offset-there, offset-others, offset-capacity}
@@ -71,7 +71,7 @@ module _ (M : Operators) (arity : ℕ) (w : World M) where
       before zero h = record { place = p; registers = R; is = refl; on = omega arith; below = l; kept = λ r x. refl }
       before (suc k) h = absurd (omega arith)
 
-  more : {p q n : ℕ} {R Q : Registers M} {e : Ending M} → p < w .limit → step M (w .consts) (w .code) (Now.at p R) ≡ Now.at q Q → p < q → Same Q R →
+  more : {p q n : ℕ} {R Q : Registers M} {e : Ending M} → p < w .limit → machineStep M (w .consts) (w .code) (Now.at p R) ≡ Now.at q Q → p < q → Same Q R →
       Arrives q Q e n → Arrives p R e (suc n)
   unfolding after
   more {p} {q} {n} {R} {Q} {e} l s h kp ih = record { end = over (ih .end); before = before; once = once }
@@ -173,7 +173,7 @@ module _ (sense : Bool) (t : Tree) (root : ℕ) (m m' : Made) (j : ℕ) (empty :
   arity = length (t .names)
 
   abbrev alone : Lowered
-  alone = leaves (result 0 j 0 0 (count m') (m' .state .constants) (m' .state .registers .«frame_size») arity) m'
+  alone = lowered (result 0 j 0 0 (count m') (m' .state .constants) (m' .state .registers .«frame_size») arity) m'
 
   level : count m' ≡ suc j
   level = good unit-operators unit-values .level
@@ -188,7 +188,7 @@ module _ (sense : Bool) (t : Tree) (root : ℕ) (m m' : Made) (j : ℕ) (empty :
       }
 
   module _ (g : Goal j) where
-    patched : patchJump (m' .code) (count m') j (g .offset) ≡ record { number = 0; code = withOffset (m' .code) j (g .offset) }
+    patched : patchJump (m' .code) (count m') j (g .offset) ≡ record { number = 0; code = putOffset (m' .code) j (g .offset) }
     unfolding patchJump
     patched = rw (may-can (m' .code) (count m') j 0 may)
 
@@ -205,11 +205,11 @@ module _ (sense : Bool) (t : Tree) (root : ℕ) (m m' : Made) (j : ℕ) (empty :
       world : (ℕ → ℕ → Bool) → World M
       world stop = record { consts = consts; code = code; base = 0; limit = count m'; stop = stop }
 
-      fetched : (i : ℕ) → i < count m' → code i ≡ decode (recordAt instructionWidth (withOffset (m' .code) j (g .offset)) i)
+      fetched : (i : ℕ) → i < count m' → code i ≡ decode (recordAt instructionWidth (putOffset (m' .code) j (g .offset)) i)
       fetched i h =
           let l = level in
           ap (λ p. fetch (p .code) (count m') i) patched
-          ∙ fetch-record (withOffset (m' .code) j (g .offset)) (count m') i h
+          ∙ fetch-record (putOffset (m' .code) j (g .offset)) (count m') i h
           (let c = offset-capacity j (g .offset) m' room (omega arith) in omega (arith, room .inside))
 
       final : (stop : ℕ → ℕ → Bool) → Final (world stop) (count m) j m'
@@ -236,21 +236,21 @@ module _ (sense : Bool) (t : Tree) (root : ℕ) (m m' : Made) (j : ℕ) (empty :
           (good M (s .parameters) .sim (s .hypotheses) (world stop) (g .offset) (g .place) (ap (λ p. target p (g .offset)) z ∙ g .reached) (final stop)
           (ap code z ∙ fetched j (omega arith) ∙ ap decode (offset-there j (g .offset) m' room (omega arith)))
           (omega arith) (s .registers) e (s .filled) (s .order, s .own)
-          (after-map (after-bind (worthAt M t (s .parameters) root) (λ a. given (M .test a)) k) (λ v kv. after-map kv
+          (after-map (after-bind (valueAt M t (s .parameters) root) (λ a. given (M .test a)) k) (λ v kv. after-map kv
           (λ c x R' kp.
           out (ap (λ i. stop i (cond (Bool·beq c sense) (g .place) (0 + suc j))) z ∙ ap (λ n. stop j (cond (Bool·beq c sense) (g .place) n)) b ∙ x)))))
 
       abbrev run : ℕ → Now M
       run n = runTo sense t root alone g s n
 
-      abbrev tested : Worth (M .Failure) Bool
+      abbrev tested : Evaluation (M .Failure) Bool
       tested = testOf sense t root alone s
 
-      abbrev Left : Worth (M .Failure) Bool → Now M → Type 0
+      abbrev Left : Evaluation (M .Failure) Bool → Now M → Type 0
       Left r now = LeftBy sense t root alone g s r now
 
       abbrev ByJump : ℕ → Type 0
-      ByJump n = (b : Bool) → tested ≡ worth b → (k : ℕ) × (P : Registers M) × (n ≡ k + 1) × (run k ≡ Now.at j P)
+      ByJump n = (b : Bool) → tested ≡ evaluates b → (k : ℕ) × (P : Registers M) × (n ≡ k + 1) × (run k ≡ Now.at j P)
 
       -- a run that arrives is one up to there
       up-to : (stop : ℕ → ℕ → Bool) (e : Ending M) (n : ℕ) → Arrives M arity (world stop) 0 (s .registers) e n → Left tested (run n) → ByJump n → UpTo sense t root alone g s n
@@ -285,14 +285,14 @@ module _ (sense : Bool) (t : Tree) (root : ℕ) (m m' : Made) (j : ℕ) (empty :
       stopAt : ℕ → ℕ → ℕ → Bool
       stopAt q p p' = eqb p j && eqb p' q
 
-      arrived : (b : Bool) → tested ≡ worth b → (e : Ending M) → (n : ℕ) × Arrives M arity (world (stopAt (to b))) 0 (s .registers) e n
+      arrived : (b : Bool) → tested ≡ evaluates b → (e : Ending M) → (n : ℕ) × Arrives M arity (world (stopAt (to b))) 0 (s .registers) e n
       unfolding stopAt
       arrived b q e =
           arrives M arity (world (stopAt (to b)))
           (run-to (stopAt (to b)) e (subst (λ r. After (λ c. stopAt (to b) j (to c) ≡ true) (λ x. e ≡ failed x) r) (sym q) (worked (rw (eq-eqb j j refl, eq-eqb (to b) (to b) refl)))))
 
       -- it is left there: it cannot end in two ways
-      goes : (b : Bool) → tested ≡ worth b → (n : ℕ) × UpTo sense t root alone g s n
+      goes : (b : Bool) → tested ≡ evaluates b → (n : ℕ) × UpTo sense t root alone g s n
       unfolding world stopAt
       goes b q =
           let one = arrived b q lost in
@@ -321,39 +321,39 @@ module _ (sense : Bool) (t : Tree) (root : ℕ) (m m' : Made) (j : ℕ) (empty :
       unfolding world
       breaks y q =
           let a = arrives M arity (world (λ p p'. false)) (run-to (λ p p'. false) (failed y) (subst (λ r. After (λ c. false ≡ true) (λ x. _≡_ {A = Ending M} (failed y) (failed x)) r) (sym q) (broke refl))) in
-          (a .0, up-to (λ p p'. false) (failed y) (a .0) (a .1) (subst (λ r. Left r (run (a .0))) (sym q) (go (a .0) (a .1 .end))) (λ b z. absurd (fails-worth (sym q ∙ z))))
+          (a .0, up-to (λ p p'. false) (failed y) (a .0) (a .1) (subst (λ r. Left r (run (a .0))) (sym q) (go (a .0) (a .1 .end))) (λ b z. absurd (fails-value (sym q ∙ z))))
         where
-          fails-worth : {b : Bool} → _≡_ {A = Worth (M .Failure) Bool} (fails y) (worth b) → ⊥
-          fails-worth e = let z : _≡_ {A = ℕ} 0 1 = cc in omega arith
+          fails-value : {b : Bool} → _≡_ {A = Evaluation (M .Failure) Bool} (fails y) (evaluates b) → ⊥
+          fails-value e = let z : _≡_ {A = ℕ} 0 1 = cc in omega arith
 
           go : (n : ℕ) → End M arity (world (λ p p'. false)) (s .registers) (failed y) (Now.at 0 (s .registers)) n (run n) → run n ≡ ended (failed y)
           go n (ended-so z) = z
           go n (left-at i x k I Q z c y h kp) = absurd (false≢true h)
 
       runs : (n : ℕ) × UpTo sense t root alone g s n
-      runs = go tested refl (known-bind (worthAt M t (s .parameters) root) _ (good M (s .parameters) .known) (λ v. known-given (M .test v)))
+      runs = go tested refl (known-bind (valueAt M t (s .parameters) root) _ (good M (s .parameters) .known) (λ v. known-given (M .test v)))
         where
-          go : (r : Worth (M .Failure) Bool) → tested ≡ r → Known r → (n : ℕ) × UpTo sense t root alone g s n
-          go (worth b) q k = goes b q
+          go : (r : Evaluation (M .Failure) Bool) → tested ≡ r → Known r → (n : ℕ) × UpTo sense t root alone g s n
+          go (evaluates b) q k = goes b q
           go (fails y) q k = breaks y q
           go undefined q k = absurd k
 
       -- a goal past the place after the code
       module _ (ahead : count m' < g .place) (n : ℕ) (u : UpTo sense t root alone g s n) where
         abbrev go-on : Now M → Now M
-        go-on now = step M consts code now
+        go-on now = machineStep M consts code now
 
         past : (q : ℕ) (Q : Registers M) → count m' ≤ q → go-on (Now.at q Q) ≡ ended lost
-        unfolding step stepAt
+        unfolding machineStep stepAt
         past q Q h = ap (λ i. stepAt M consts code i q Q) (outside (patchJump (m' .code) (count m') j (g .offset) .code) (count m') q h)
 
         to-past : (b : Bool) → count m' ≤ to b
         to-past b = past-both (Bool·beq b sense) (g .place) (count m') ahead
 
         -- one step later it has ended
-        after-that : (r : Worth (M .Failure) Bool) → Left r (run n) → (e : Ending M) × (run (suc n) ≡ ended e)
+        after-that : (r : Evaluation (M .Failure) Bool) → Left r (run n) → (e : Ending M) × (run (suc n) ≡ ended e)
         unfolding after
-        after-that (worth b) (R, z) = (lost, ap go-on z ∙ past (to b) R (to-past b))
+        after-that (evaluates b) (R, z) = (lost, ap go-on z ∙ past (to b) R (to-past b))
         after-that (fails y) z = (failed y, after-later M consts code n (suc n) (Now.at 0 (s .registers)) (omega arith) z)
         after-that undefined z = absurd z
 
@@ -378,17 +378,17 @@ module _ (sense : Bool) (t : Tree) (root : ℕ) (m m' : Made) (j : ℕ) (empty :
                 absurd (omega (arith, i .3))
 
         -- what is said of a place at which it is left
-        at-left : (r : Worth (M .Failure) Bool) (p : ℕ) (P : Registers M) → Left r (run n) → run n ≡ Now.at p P → (b : Bool) × (r ≡ worth b) × (to b ≡ p)
-        at-left (worth b) p P (R, z) h = (b, refl, at-place M arity (world (λ p p'. false)) (sym z ∙ h))
+        at-left : (r : Evaluation (M .Failure) Bool) (p : ℕ) (P : Registers M) → Left r (run n) → run n ≡ Now.at p P → (b : Bool) × (r ≡ evaluates b) × (to b ≡ p)
+        at-left (evaluates b) p P (R, z) h = (b, refl, at-place M arity (world (λ p p'. false)) (sym z ∙ h))
         at-left (fails y) p P z h = absurd (not-both M arity (world (λ p p'. false)) (sym z ∙ h))
         at-left undefined p P z h = absurd z
 
-        left-of : (b : Bool) → tested ≡ worth b → (R : Registers M) × (run n ≡ Now.at (to b) R)
+        left-of : (b : Bool) → tested ≡ evaluates b → (R : Registers M) × (run n ≡ Now.at (to b) R)
         left-of b q = subst (λ r. Left r (run n)) q (u .left)
 
-        fails-back : (r : Worth (M .Failure) Bool) (y : M .Failure) (k : ℕ) → Left r (run n) → run k ≡ ended (failed y) → r ≡ fails y
+        fails-back : (r : Evaluation (M .Failure) Bool) (y : M .Failure) (k : ℕ) → Left r (run n) → run k ≡ ended (failed y) → r ≡ fails y
         unfolding after
-        fails-back (worth b) y k (R, z) h =
+        fails-back (evaluates b) y k (R, z) h =
             let both : _≡_ {A = Now M} (ended lost) (ended (failed y)) =
             one-ending M consts code (suc n) k (Now.at 0 (s .registers)) (ap go-on z ∙ past (to b) R (to-past b)) h in
             let w : _≡_ {A = ℕ} 0 1 = cc in
@@ -405,14 +405,14 @@ module _ (sense : Bool) (t : Tree) (root : ℕ) (m m' : Made) (j : ℕ) (empty :
             λ h.
                 let k : h .0 ≡ n = only-there (h .0) (g .place) (h .1) (omega arith) (h .2) in
                 let a = at-left tested (g .place) (h .1) (u .left) (ap run (sym k) ∙ h .2) in
-                a .1 ∙ ap worth (sense-of (a .0) sense (g .place) (count m') ahead (a .2)),
+                a .1 ∙ ap evaluates (sense-of (a .0) sense (g .place) (count m') ahead (a .2)),
           );
           to-behind = (
             λ q. let z = left-of (not sense) q in (n, z .0, z .1 ∙ ap (λ p. Now.at p (z .0)) (other-sense sense (g .place) (count m'))),
             λ h.
                 let k : h .0 ≡ n = only-there (h .0) (count m') (h .1) (le-refl _) (h .2) in
                 let a = at-left tested (count m') (h .1) (u .left) (ap run (sym k) ∙ h .2) in
-                a .1 ∙ ap worth (not-sense-of (a .0) sense (g .place) (count m') ahead (a .2)),
+                a .1 ∙ ap evaluates (not-sense-of (a .0) sense (g .place) (count m') ahead (a .2)),
           );
           fails-alike = λ y. (λ q. (n, subst (λ r. Left r (run n)) q (u .left)), λ h. fails-back tested y (h .0) (u .left) (h .1));
           once = once;
@@ -443,13 +443,13 @@ module _ (sense : Bool) (t : Tree) (root : ℕ) (m m' : Made) (j : ℕ) (empty :
         runs = runs;
         exactly = λ g s h. let r = runs g s in exactly g s h (r .0) (r .1);
         short = let z = good unit-operators unit-values .short in omega arith;
-        defined = λ M values. known-defined (worthAt M t values root) (good M values .known);
+        defined = λ M values. known-defined (valueAt M t values root) (good M values .known);
       }
 
 -- ---- of `lower`
 
 pub condition-law : ConditionLaw
-unfolding lower lowerChecked answered
+unfolding lower lowerChecked loweredOf
 condition-law sense nodes list names root code constants marks plain e = by-verdict (questions nodes list names (modeOf sense) root) refl e
   where
     t : Tree
@@ -470,7 +470,7 @@ condition-law sense nodes list names root code constants marks plain e = by-verd
         (begin-marks code constants marks 0 (length (words names)))
 
     by-outcome : (o : Outcome ℕ) → lowerRoot freeTemp t (modeOf sense) root start ≡ o → questions nodes list names (modeOf sense) root ≡ passed →
-        answered (length (words names)) o .result .number ≡ 0 → ConditionOf sense t root (answered (length (words names)) o)
+        loweredOf (length (words names)) o .result .number ≡ 0 → ConditionOf sense t root (loweredOf (length (words names)) o)
     by-outcome (ends place m) q v z =
         let good : (M : Operators) (args : ℕ → M .Value) → RootJumped M t args sense root start place m =
         λ M args. holds-ends (subst (λ o. Holds (RootJumped M t args sense root start) o) q (jumped sense v M args)) in

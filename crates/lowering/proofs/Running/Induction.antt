@@ -20,14 +20,14 @@ use Rattle.lowering.specs.Walk.{Made, ends, Walk, bind, _>>=_, _>>_}
 use Rattle.lowering.specs.Steps.{freeTemp, patchMarks, patchArguments}
 use Rattle.lowering.specs.Lower.{source, lowerMaterializing, lowerNode, jumpNode, expressionBelow, jumpBelow, lowerExpression, lowerJumpIfFalse, lowerJumpIfTrue}
 use Rattle.lowering.specs.Result.{lowerRoot}
-use Rattle.lowering.specs.Meaning.{Operators, Hypotheses, Worth, Worths, nodeWorth, worthBelow, worthAt, conditionAsks, nodeAsks, conditionAsksBelow, asksBelow, OrderPremise, ConditionPremise, AtRoot, Named, first, later, Reaches, here, below, Plain, counts, total, sizeBelow, sizeAt}
+use Rattle.lowering.specs.Meaning.{Operators, Hypotheses, Evaluation, Evaluations, nodeValue, valueBelow, valueAt, conditionAsks, nodeAsks, conditionAsksBelow, asksBelow, OrderPremise, ConditionPremise, AtRoot, Named, first, later, Reaches, here, below, Plain, nodeSize, total, sizeBelow, sizeAt}
 use Rattle.lowering.specs.Machine.{Ending, returned, failed, Registers, action, act}
-use Rattle.lowering.proofs.Bound.Meaning.{worth-at, order-at, size-at}
+use Rattle.lowering.proofs.Bound.Meaning.{value-at, order-at, size-at}
 use Rattle.lowering.proofs.Running.Decode.{number-proper, Proper, constant}
 use Rattle.lowering.proofs.Running.Steps.{Holds, fine, void, chain, count, emit-holds, Room}
 use Rattle.lowering.proofs.Running.MachineRuns.{After, after-map, Known, World, Run, step-instruction, run-return}
 use Rattle.lowering.proofs.Running.Promise.{Final, earlier, Owns, Target, Params, literal, materialized-good}
-use Rattle.lowering.proofs.Running.Nodes.{Lowers, named-good, good-binary, good-unary, good-not, good-property, good-and, good-or, good-block}
+use Rattle.lowering.proofs.Running.Nodes.{AsOperand, named-good, good-binary, good-unary, good-not, good-property, good-and, good-or, good-block}
 use Rattle.lowering.proofs.Running.Conditions.{Jumped, tested-good, binary-jumped, good-if}
 
 module _ (M : Operators) (t : Tree) (args : ℕ → M .Value) where
@@ -35,12 +35,12 @@ module _ (M : Operators) (t : Tree) (args : ℕ → M .Value) where
   arity = length (t .names)
 
   -- what is promised of a node by walks on its children that keep the promise, where those hold P
-  module _ (E : ℕ → Dest → Walk Operand) (J : ℕ → Walk ℕ) (W : Worths M) (S : ℕ → ℕ) (A C P : ℕ → Type 0)
-      (good : (i : ℕ) → P i → (dest : Dest) (m : Made) → Owns arity m → Target arity m dest → Holds (Lowers M t args arity m dest (S i) (A i) (W i)) (E i dest m))
+  module _ (E : ℕ → Dest → Walk Operand) (J : ℕ → Walk ℕ) (W : Evaluations M) (S : ℕ → ℕ) (A C P : ℕ → Type 0)
+      (good : (i : ℕ) → P i → (dest : Dest) (m : Made) → Owns arity m → Target arity m dest → Holds (AsOperand M t args arity m dest (S i) (A i) (W i)) (E i dest m))
       (jumps : (i : ℕ) → P i → (m : Made) → Owns arity m → Holds (Jumped M args arity false m (S i) (A i × C i) (W i)) (J i m)) where
     node-good : (n : Node) → Plain n → ((c : ℕ) → Named c (children (t .list) n) → P c) → (i : ℕ) (dest : Dest) (m : Made) → Owns arity m → Target arity m dest →
-        Holds (Lowers M t args arity m dest (counts n + total S (children (t .list) n)) (nodeAsks M t args W A C n) (nodeWorth M t args W n)) (lowerNode freeTemp t E J i n dest m)
-    unfolding lowerNode counts total children nodeAsks nodeWorth Plain source Proper constant
+        Holds (AsOperand M t args arity m dest (nodeSize n + total S (children (t .list) n)) (nodeAsks M t args W A C n) (nodeValue M t args W n)) (lowerNode freeTemp t E J i n dest m)
+    unfolding lowerNode nodeSize total children nodeAsks nodeValue Plain source Proper constant
     node-good (Node.Number low high) pl p i dest m o g = fine (literal refl (number-proper low high) (le-refl 1))
     node-good (Node.String symbol) pl p i dest m o g = fine (literal refl tt (le-refl 1))
     node-good (Node.Boolean b) pl p i dest m o g = fine (literal refl tt (le-refl 1))
@@ -59,10 +59,10 @@ module _ (M : Operators) (t : Tree) (args : ℕ → M .Value) where
     node-good (Node.Map start number) pl p i dest m o g = absurd pl
 
     jump-good : (sense : Bool) (n : Node) → ((c : ℕ) → Named c (children (t .list) n) → P c) → (m : Made) (own : Dest → Walk Operand) → Owns arity m →
-        Holds (Lowers M t args arity m Dest.Any (counts n + total S (children (t .list) n)) (nodeAsks M t args W A C n) (nodeWorth M t args W n)) (own Dest.Any m) →
-        Holds (Jumped M args arity sense m (counts n + total S (children (t .list) n)) (nodeAsks M t args W A C n × AtRoot sense (conditionAsks M t args W n)) (nodeWorth M t args W n))
+        Holds (AsOperand M t args arity m Dest.Any (nodeSize n + total S (children (t .list) n)) (nodeAsks M t args W A C n) (nodeValue M t args W n)) (own Dest.Any m) →
+        Holds (Jumped M args arity sense m (nodeSize n + total S (children (t .list) n)) (nodeAsks M t args W A C n × AtRoot sense (conditionAsks M t args W n)) (nodeValue M t args W n))
         (jumpNode t E sense own n m)
-    unfolding jumpNode counts total children nodeAsks nodeWorth conditionAsks
+    unfolding jumpNode nodeSize total children nodeAsks nodeValue conditionAsks
     jump-good sense (Node.Number low high) p m own o h = tested-good M t args arity sense E own o h
     jump-good sense (Node.String symbol) p m own o h = tested-good M t args arity sense E own o h
     jump-good sense (Node.Boolean b) p m own o h = tested-good M t args arity sense E own o h
@@ -87,52 +87,52 @@ module _ (M : Operators) (t : Tree) (args : ℕ → M .Value) where
   plain-child i c p n j r = p j (below n r)
 
   mutual
-    unfolding expressionBelow jumpBelow sizeBelow asksBelow worthBelow conditionAsksBelow
+    unfolding expressionBelow jumpBelow sizeBelow asksBelow valueBelow conditionAsksBelow
 
     expression-good : (f i : ℕ) → PlainFrom i → (dest : Dest) (m : Made) → Owns arity m → Target arity m dest →
-        Holds (Lowers M t args arity m dest (sizeBelow t f i) (asksBelow M t args f i) (worthBelow M t args f i)) (expressionBelow freeTemp t f i dest m)
+        Holds (AsOperand M t args arity m dest (sizeBelow t f i) (asksBelow M t args f i) (valueBelow M t args f i)) (expressionBelow freeTemp t f i dest m)
     expression-good zero i p dest m o g = void
     expression-good (suc f) i p dest m o g =
-        node-good (λ n d. expressionBelow freeTemp t f n d) (λ n. jumpBelow freeTemp t f n) (λ n. worthBelow M t args f n) (λ n. sizeBelow t f n) (λ n. asksBelow M t args f n)
+        node-good (λ n d. expressionBelow freeTemp t f n d) (λ n. jumpBelow freeTemp t f n) (λ n. valueBelow M t args f n) (λ n. sizeBelow t f n) (λ n. asksBelow M t args f n)
         (λ n. conditionAsksBelow M t args f n) PlainFrom (λ n p d m o g. expression-good f n p d m o g) (λ n p m o. condition-good f n p m o)
         (node t i) (p i here) (λ c n. plain-child i c p n) i dest m o g
 
     condition-good : (f i : ℕ) → PlainFrom i → (m : Made) → Owns arity m →
-        Holds (Jumped M args arity false m (sizeBelow t f i) (asksBelow M t args f i × conditionAsksBelow M t args f i) (worthBelow M t args f i)) (jumpBelow freeTemp t f i m)
+        Holds (Jumped M args arity false m (sizeBelow t f i) (asksBelow M t args f i × conditionAsksBelow M t args f i) (valueBelow M t args f i)) (jumpBelow freeTemp t f i m)
     condition-good zero i p m o = void
     condition-good (suc f) i p m o =
-        jump-good (λ n d. expressionBelow freeTemp t f n d) (λ n. jumpBelow freeTemp t f n) (λ n. worthBelow M t args f n) (λ n. sizeBelow t f n) (λ n. asksBelow M t args f n)
+        jump-good (λ n d. expressionBelow freeTemp t f n d) (λ n. jumpBelow freeTemp t f n) (λ n. valueBelow M t args f n) (λ n. sizeBelow t f n) (λ n. asksBelow M t args f n)
         (λ n. conditionAsksBelow M t args f n) PlainFrom (λ n p d m o g. expression-good f n p d m o g) (λ n p m o. condition-good f n p m o)
         false (node t i) (λ c n. plain-child i c p n) m _ o
-        (node-good (λ n d. expressionBelow freeTemp t f n d) (λ n. jumpBelow freeTemp t f n) (λ n. worthBelow M t args f n) (λ n. sizeBelow t f n) (λ n. asksBelow M t args f n)
+        (node-good (λ n d. expressionBelow freeTemp t f n d) (λ n. jumpBelow freeTemp t f n) (λ n. valueBelow M t args f n) (λ n. sizeBelow t f n) (λ n. asksBelow M t args f n)
         (λ n. conditionAsksBelow M t args f n) PlainFrom (λ n p d m o g. expression-good f n p d m o g) (λ n p m o. condition-good f n p m o)
         (node t i) (p i here) (λ c n. plain-child i c p n) i Dest.Any m o tt)
 
   -- at a node, with no bound
   expression-at : (i : ℕ) → PlainFrom i → (dest : Dest) (m : Made) → Owns arity m → Target arity m dest →
-      Holds (Lowers M t args arity m dest (sizeAt t i) (OrderPremise M t args i) (worthAt M t args i)) (lowerExpression freeTemp t i dest m)
-  unfolding lowerExpression sizeAt OrderPremise worthAt
+      Holds (AsOperand M t args arity m dest (sizeAt t i) (OrderPremise M t args i) (valueAt M t args i)) (lowerExpression freeTemp t i dest m)
+  unfolding lowerExpression sizeAt OrderPremise valueAt
   expression-at i p dest m o g = expression-good (suc i) i p dest m o g
 
   condition-at : (i : ℕ) → PlainFrom i → (m : Made) → Owns arity m →
-      Holds (Jumped M args arity false m (sizeAt t i) (OrderPremise M t args i × conditionAsksBelow M t args (suc i) i) (worthAt M t args i)) (lowerJumpIfFalse freeTemp t i m)
-  unfolding lowerJumpIfFalse sizeAt OrderPremise worthAt
+      Holds (Jumped M args arity false m (sizeAt t i) (OrderPremise M t args i × conditionAsksBelow M t args (suc i) i) (valueAt M t args i)) (lowerJumpIfFalse freeTemp t i m)
+  unfolding lowerJumpIfFalse sizeAt OrderPremise valueAt
   condition-at i p m o = condition-good (suc i) i p m o
 
   -- the root, with its Return
   pub record Rooted (root : ℕ) (m m' : Made) : Type 0 where
     pub short : count m' ≤ count m + sizeAt t root + 1
     pub room : Room m'
-    pub known : Known (worthAt M t args root)
+    pub known : Known (valueAt M t args root)
     pub sim : (laws : Hypotheses M) (w : World M) → Final w (count m) (count m') m' → (R : Registers M) (e : Ending M) → Params M args arity R →
-        OrderPremise M t args root → After (λ v. e ≡ returned v) (λ x. e ≡ failed x) (worthAt M t args root) → Run M arity w (w .base + count m) R e
+        OrderPremise M t args root → After (λ v. e ≡ returned v) (λ x. e ≡ failed x) (valueAt M t args root) → Run M arity w (w .base + count m) R e
 
   no-marks : (m : Made) → m .state .marks ≡ 0 → patchArguments m ≡ ends tt m
   unfolding patchArguments patchMarks
   no-marks m e = rw e
 
   pub root-good : (root : ℕ) → PlainFrom root → (m : Made) → Owns arity m → m .state .marks ≡ 0 → Holds (λ a m'. Rooted root m m') (lowerRoot freeTemp t 0 root m)
-  unfolding lowerRoot lowerMaterializing lowerExpression sizeAt worthAt OrderPremise action act bind
+  unfolding lowerRoot lowerMaterializing lowerExpression sizeAt valueAt OrderPremise action act bind
   root-good root p m o z =
       chain (chain (expression-good (suc root) root p Dest.Any m o tt) (λ x m1 h. materialized-good M args arity {m = m} {dest = Dest.Any} o tt h)) (λ r m2 q.
       chain (emit-holds (Instruction.Return (regOf r)) m2) (λ n m3 g.
@@ -159,10 +159,10 @@ module _ (M : Operators) (t : Tree) (args : ℕ → M .Value) where
 
   -- what is promised of a root that jumps where it tests as `sense`
   abbrev pub RootJumped : Bool → ℕ → Made → ℕ → Made → Type 0
-  RootJumped sense root m = Jumped M args arity sense m (sizeAt t root) (OrderPremise M t args root × AtRoot sense (ConditionPremise M t args root)) (worthAt M t args root)
+  RootJumped sense root m = Jumped M args arity sense m (sizeAt t root) (OrderPremise M t args root × AtRoot sense (ConditionPremise M t args root)) (valueAt M t args root)
 
   pub root-false : (root : ℕ) → PlainFrom root → (m : Made) → Owns arity m → m .state .marks ≡ 0 → Holds (RootJumped false root m) (lowerRoot freeTemp t 1 root m)
-  unfolding lowerRoot lowerJumpIfFalse sizeAt worthAt OrderPremise ConditionPremise bind
+  unfolding lowerRoot lowerJumpIfFalse sizeAt valueAt OrderPremise ConditionPremise bind
   root-false root p m o z =
       chain {P = RootJumped false root m} (condition-good (suc root) root p m o) (λ j m1 q. rw (no-marks m1 (q .grown .kept .marks ∙ z)) (fine q))
 
@@ -171,30 +171,30 @@ module _ (M : Operators) (t : Tree) (args : ℕ → M .Value) where
     here-node = node t root
 
     abbrev here-size : ℕ
-    here-size = counts here-node + total (sizeAt t) (children (t .list) here-node)
+    here-size = nodeSize here-node + total (sizeAt t) (children (t .list) here-node)
 
     abbrev here-asks : Type 0
-    here-asks = nodeAsks M t args (worthAt M t args) (OrderPremise M t args) (λ c. conditionAsksBelow M t args (suc c) c) here-node
+    here-asks = nodeAsks M t args (valueAt M t args) (OrderPremise M t args) (λ c. conditionAsksBelow M t args (suc c) c) here-node
 
-    abbrev here-worth : Worth (M .Failure) (M .Value)
-    here-worth = nodeWorth M t args (worthAt M t args) here-node
+    abbrev here-value : Evaluation (M .Failure) (M .Value)
+    here-value = nodeValue M t args (valueAt M t args) here-node
 
-    own-good : PlainFrom root → (m : Made) → Owns arity m → Holds (Lowers M t args arity m Dest.Any here-size here-asks here-worth) (lowerExpression freeTemp t root Dest.Any m)
+    own-good : PlainFrom root → (m : Made) → Owns arity m → Holds (AsOperand M t args arity m Dest.Any here-size here-asks here-value) (lowerExpression freeTemp t root Dest.Any m)
     unfolding lowerExpression
     own-good p m o =
-        subst (λ s. Holds (Lowers M t args arity m Dest.Any s here-asks here-worth) (expressionBelow freeTemp t (suc root) root Dest.Any m)) (size-at t n falls root inside)
-        (subst (λ A. Holds (Lowers M t args arity m Dest.Any (sizeAt t root) A here-worth) (expressionBelow freeTemp t (suc root) root Dest.Any m)) (order-at M t args n falls root inside)
-        (subst (λ w. Holds (Lowers M t args arity m Dest.Any (sizeAt t root) (OrderPremise M t args root) w) (expressionBelow freeTemp t (suc root) root Dest.Any m)) (worth-at M t args n falls root inside)
+        subst (λ s. Holds (AsOperand M t args arity m Dest.Any s here-asks here-value) (expressionBelow freeTemp t (suc root) root Dest.Any m)) (size-at t n falls root inside)
+        (subst (λ A. Holds (AsOperand M t args arity m Dest.Any (sizeAt t root) A here-value) (expressionBelow freeTemp t (suc root) root Dest.Any m)) (order-at M t args n falls root inside)
+        (subst (λ w. Holds (AsOperand M t args arity m Dest.Any (sizeAt t root) (OrderPremise M t args root) w) (expressionBelow freeTemp t (suc root) root Dest.Any m)) (value-at M t args n falls root inside)
         (expression-at root p Dest.Any m o tt)))
 
     pub root-true : PlainFrom root → (m : Made) → Owns arity m → m .state .marks ≡ 0 → Holds (RootJumped true root m) (lowerRoot freeTemp t 2 root m)
     unfolding lowerRoot lowerJumpIfTrue bind
     root-true p m o z =
         chain {P = RootJumped true root m}
-        (subst (λ s. Holds (Jumped M args arity true m s (OrderPremise M t args root × Unit {0}) (worthAt M t args root)) (lowerJumpIfTrue freeTemp t root m)) (sym (size-at t n falls root inside))
-        (subst (λ A. Holds (Jumped M args arity true m here-size (A × Unit {0}) (worthAt M t args root)) (lowerJumpIfTrue freeTemp t root m)) (sym (order-at M t args n falls root inside))
-        (subst (λ w. Holds (Jumped M args arity true m here-size (here-asks × Unit {0}) w) (lowerJumpIfTrue freeTemp t root m)) (sym (worth-at M t args n falls root inside))
-        (jump-good (λ n d. lowerExpression freeTemp t n d) (λ n. lowerJumpIfFalse freeTemp t n) (worthAt M t args) (sizeAt t) (OrderPremise M t args)
+        (subst (λ s. Holds (Jumped M args arity true m s (OrderPremise M t args root × Unit {0}) (valueAt M t args root)) (lowerJumpIfTrue freeTemp t root m)) (sym (size-at t n falls root inside))
+        (subst (λ A. Holds (Jumped M args arity true m here-size (A × Unit {0}) (valueAt M t args root)) (lowerJumpIfTrue freeTemp t root m)) (sym (order-at M t args n falls root inside))
+        (subst (λ w. Holds (Jumped M args arity true m here-size (here-asks × Unit {0}) w) (lowerJumpIfTrue freeTemp t root m)) (sym (value-at M t args n falls root inside))
+        (jump-good (λ n d. lowerExpression freeTemp t n d) (λ n. lowerJumpIfFalse freeTemp t n) (valueAt M t args) (sizeAt t) (OrderPremise M t args)
         (λ c. conditionAsksBelow M t args (suc c) c) PlainFrom (λ n p d m o g. expression-at n p d m o g) (λ n p m o. condition-at n p m o)
         true here-node (λ c x. plain-child root c p x) m (lowerExpression freeTemp t root) o (own-good p m o)))))
         (λ j m1 q. rw (no-marks m1 (q .grown .kept .marks ∙ z)) (fine q))

@@ -22,17 +22,17 @@ use Rattle.runtime.specs.Function.{emitInstruction, storeConstant}
 use Rattle.runtime.specs.Instruction.{wordsOf, hasDestination, offsetWord, decode}
 use Rattle.runtime.specs.Operands.{regOf}
 use Rattle.runtime.specs.Value.{numberOf, constantWords}
-use Rattle.lowering.specs.Lower.{source, sameRegister, nameOf, materialized, lowerMaterializing, moved, named, binarySources, lowerArguments, storeNamed, storeKeyed, lowerEntry, lowerEntries, lowerElse, lowerTail, lowerNode, tested, fusedSources, fused, jumpNode, lowerExpression, lowerJumpIfFalse, lowerJumpIfTrue, expressionBelow, jumpBelow}
+use Rattle.lowering.specs.Lower.{source, sameRegister, nameOf, materialized, lowerMaterializing, moved, lowerName, binarySources, lowerArguments, storeNamed, storeKeyed, lowerEntry, lowerEntries, lowerElse, lowerTail, lowerNode, test, fusedSources, fuse, jumpNode, lowerExpression, lowerJumpIfFalse, lowerJumpIfTrue, expressionBelow, jumpBelow}
 use Rattle.lowering.specs.Operators.{binaryRR, binaryRK, binaryKR, unary, comparison, jumpRR, jumpRK, jumpKR, jumpIf}
 use Rattle.lowering.specs.Questions.{whole, question1, question2, question3, question4, question5, question6, allBelow, question7, question8, askNode, askNodes, questions}
-use Rattle.lowering.specs.Steps.{placed, registered, allocateTemp, freeTemp, destination, emit, store, loadConstant, withOffset, patchToNext, mark, patchArgument, patchMarks, patchArguments}
+use Rattle.lowering.specs.Steps.{placed, registered, allocateTemp, freeTemp, destination, emit, store, loadConstant, putOffset, patchToNext, mark, patchArgument, patchMarks, patchArguments}
 use Rattle.lowering.specs.Tree.{node, present, entryNodes, children}
 use Rattle.lowering.specs.Walk.{bind}
-use Rattle.lowering.specs.Result.{result, begin, lowerRoot, answered, lowerChecked, lower}
-use Rattle.lowering.specs.Meaning.{val, Operators, Hypotheses, Ordered, Worth, worth, IfAny, met, lastNamed, operate, nodeWorth, worthBelow, worthAt, OrderAt, conditionAsks, nodeAsks, conditionAsksBelow, asksBelow, OrderPremise, Chosen, Named, first, later, Reaches, here, below, Plain}
-use Rattle.lowering.specs.Machine.{recordIn, fetch, constantAt, constantOf, target, action, returned, lost, Registers, Now, ended, fill, act, stepAt, step, after}
+use Rattle.lowering.specs.Result.{result, begin, lowerRoot, loweredOf, lowerChecked, lower}
+use Rattle.lowering.specs.Meaning.{val, Operators, Hypotheses, Ordered, Evaluation, evaluates, IfAny, met, lastNamed, operate, nodeValue, valueBelow, valueAt, OrderAt, conditionAsks, nodeAsks, conditionAsksBelow, asksBelow, OrderPremise, Chosen, Named, first, later, Reaches, here, below, Plain}
+use Rattle.lowering.specs.Machine.{recordIn, fetch, constantAt, constantOf, target, action, returned, lost, Registers, Now, ended, fill, act, stepAt, machineStep, after}
 use Rattle.lowering.specs.Law.{Start}
-use Rattle.lowering.specs.Instance.{Datum, number, string, boolean, nil, Mismatch, numbers, combined, alike, compared, truthful, ieee, unfailing}
+use Rattle.lowering.specs.Instance.{Datum, number, string, boolean, nil, Mismatch, onNumbers, ieeeBinary, alike, ieeeCompare, ieeeTest, ieee, unfailing}
 use Rattle.lowering.specs.Examples.{pageNodes, pageTree, page, pageRun, one, two, three, five, ruleTree, rule, ruleRun}
 use Rattle.lowering.proofs.Running.Ieee.{add-order, mul-order, eq-order, order, nan-order}
 use Rattle.lowering.proofs.Running.Accepted.{running-law}
@@ -41,8 +41,8 @@ use Rattle.lowering.proofs.Running.Accepted.{running-law}
 
 -- ---- they keep the hypotheses
 
-numbers-order : {A : Type 0} (f : Float → Float → A) → ((x y : Float) → f x y ≡ f y x) → (a b : Datum) → numbers f a b ≡ numbers f b a
-unfolding numbers
+numbers-order : {A : Type 0} (f : Float → Float → A) → ((x y : Float) → f x y ≡ f y x) → (a b : Datum) → onNumbers f a b ≡ onNumbers f b a
+unfolding onNumbers
 numbers-order f h (number x) (number y) = ap val (h x y)
 numbers-order f h (number x) (string t) = refl
 numbers-order f h (number x) (boolean c) = refl
@@ -95,7 +95,7 @@ alike-order nil (boolean c) = refl
 alike-order nil nil = refl
 
 pub ieee-hypotheses : Hypotheses ieee
-unfolding combined compared truthful
+unfolding ieeeBinary ieeeCompare ieeeTest
 ieee-hypotheses = record {
   add-order = λ a b. numbers-order _ (λ x y. ap number (add-order binary64 x y)) a b;
   multiply-order = λ a b. numbers-order _ (λ x y. ap number (mul-order binary64 x y)) a b;
@@ -106,12 +106,12 @@ ieee-hypotheses = record {
 
 -- "under IEEE 754, numbers other than NaN are so", either way round
 pub numbers-ordered : (x y : Float) → isNan x ≡ false → isNan y ≡ false → Ordered ieee (number x) (number y) × Ordered ieee (number y) (number x)
-unfolding compared numbers
+unfolding ieeeCompare onNumbers
 numbers-ordered x y p q = (ap val (order x y p q), ap val (order y x q p))
 
 -- a NaN and any number are not
 pub nan-unordered : (x : Float) → Ordered ieee (number nan) (number x) → ⊥
-unfolding compared numbers
+unfolding ieeeCompare onNumbers
 nan-unordered x h =
     let both = nan-order x in
     let e : val (le x nan) ≡ val (not (lt nan x)) = h in
@@ -122,16 +122,16 @@ nan-unordered x h =
 
 -- it is accepted
 page-accepted : page .result .number ≡ 0
-unfolding page ofBits toBits nanBits capacity recordAt putRecord sameWords isAt positionFrom position append wordOf words tail bytesOf bit clear flip found allocated freed parameters lookup free takeOut putBack smallestFrom smallestFree allFree without taken givenBack nodeWord nodeAt binaryOp unaryOp emitInstruction storeConstant wordsOf hasDestination offsetWord regOf numberOf constantWords source sameRegister nameOf materialized lowerMaterializing moved named binarySources lowerArguments storeNamed storeKeyed lowerEntry lowerEntries lowerElse lowerTail lowerNode tested fusedSources fused jumpNode lowerExpression lowerJumpIfFalse lowerJumpIfTrue expressionBelow jumpBelow binaryRR binaryRK binaryKR unary comparison jumpRR jumpRK jumpKR jumpIf whole question1 question2 question3 question4 question5 question6 allBelow question7 question8 askNode askNodes questions begin lowerRoot answered lowerChecked lower placed registered allocateTemp freeTemp destination emit store loadConstant withOffset patchToNext mark patchArgument patchMarks patchArguments present entryNodes children bind
+unfolding page ofBits toBits nanBits capacity recordAt putRecord sameWords isAt positionFrom position append wordOf words tail bytesOf bit clear flip found allocated freed parameters lookup free takeOut putBack smallestFrom smallestFree allFree without taken givenBack nodeWord nodeAt binaryOp unaryOp emitInstruction storeConstant wordsOf hasDestination offsetWord regOf numberOf constantWords source sameRegister nameOf materialized lowerMaterializing moved lowerName binarySources lowerArguments storeNamed storeKeyed lowerEntry lowerEntries lowerElse lowerTail lowerNode test fusedSources fuse jumpNode lowerExpression lowerJumpIfFalse lowerJumpIfTrue expressionBelow jumpBelow binaryRR binaryRK binaryKR unary comparison jumpRR jumpRK jumpKR jumpIf whole question1 question2 question3 question4 question5 question6 allBelow question7 question8 askNode askNodes questions begin lowerRoot loweredOf lowerChecked lower placed registered allocateTemp freeTemp destination emit store loadConstant putOffset patchToNext mark patchArgument patchMarks patchArguments present entryNodes children bind
 page-accepted = refl
 
 -- flow = 2 returns 1 after four steps, flow = 5 returns 2 after three
 pub page-small : (rest : Registers ieee) → pageRun two rest 4 ≡ ended (returned (ieee .number one))
-unfolding page compared numbers alike truthful lt le eq recordIn fetch constantAt constantOf target action act stepAt step after decode ofBits toBits nanBits capacity recordAt putRecord sameWords isAt positionFrom position append wordOf words tail bytesOf bit clear flip found allocated freed parameters lookup free takeOut putBack smallestFrom smallestFree allFree without taken givenBack nodeWord nodeAt binaryOp unaryOp emitInstruction storeConstant wordsOf hasDestination offsetWord regOf numberOf constantWords source sameRegister nameOf materialized lowerMaterializing moved named binarySources lowerArguments storeNamed storeKeyed lowerEntry lowerEntries lowerElse lowerTail lowerNode tested fusedSources fused jumpNode lowerExpression lowerJumpIfFalse lowerJumpIfTrue expressionBelow jumpBelow binaryRR binaryRK binaryKR unary comparison jumpRR jumpRK jumpKR jumpIf whole question1 question2 question3 question4 question5 question6 allBelow question7 question8 askNode askNodes questions begin lowerRoot answered lowerChecked lower placed registered allocateTemp freeTemp destination emit store loadConstant withOffset patchToNext mark patchArgument patchMarks patchArguments present entryNodes children bind
+unfolding page ieeeCompare onNumbers alike ieeeTest lt le eq recordIn fetch constantAt constantOf target action act stepAt machineStep after decode ofBits toBits nanBits capacity recordAt putRecord sameWords isAt positionFrom position append wordOf words tail bytesOf bit clear flip found allocated freed parameters lookup free takeOut putBack smallestFrom smallestFree allFree without taken givenBack nodeWord nodeAt binaryOp unaryOp emitInstruction storeConstant wordsOf hasDestination offsetWord regOf numberOf constantWords source sameRegister nameOf materialized lowerMaterializing moved lowerName binarySources lowerArguments storeNamed storeKeyed lowerEntry lowerEntries lowerElse lowerTail lowerNode test fusedSources fuse jumpNode lowerExpression lowerJumpIfFalse lowerJumpIfTrue expressionBelow jumpBelow binaryRR binaryRK binaryKR unary comparison jumpRR jumpRK jumpKR jumpIf whole question1 question2 question3 question4 question5 question6 allBelow question7 question8 askNode askNodes questions begin lowerRoot loweredOf lowerChecked lower placed registered allocateTemp freeTemp destination emit store loadConstant putOffset patchToNext mark patchArgument patchMarks patchArguments present entryNodes children bind
 page-small rest = refl
 
 pub page-large : (rest : Registers ieee) → pageRun five rest 3 ≡ ended (returned (ieee .number two))
-unfolding page compared numbers alike truthful lt le eq recordIn fetch constantAt constantOf target action act stepAt step after decode ofBits toBits nanBits capacity recordAt putRecord sameWords isAt positionFrom position append wordOf words tail bytesOf bit clear flip found allocated freed parameters lookup free takeOut putBack smallestFrom smallestFree allFree without taken givenBack nodeWord nodeAt binaryOp unaryOp emitInstruction storeConstant wordsOf hasDestination offsetWord regOf numberOf constantWords source sameRegister nameOf materialized lowerMaterializing moved named binarySources lowerArguments storeNamed storeKeyed lowerEntry lowerEntries lowerElse lowerTail lowerNode tested fusedSources fused jumpNode lowerExpression lowerJumpIfFalse lowerJumpIfTrue expressionBelow jumpBelow binaryRR binaryRK binaryKR unary comparison jumpRR jumpRK jumpKR jumpIf whole question1 question2 question3 question4 question5 question6 allBelow question7 question8 askNode askNodes questions begin lowerRoot answered lowerChecked lower placed registered allocateTemp freeTemp destination emit store loadConstant withOffset patchToNext mark patchArgument patchMarks patchArguments present entryNodes children bind
+unfolding page ieeeCompare onNumbers alike ieeeTest lt le eq recordIn fetch constantAt constantOf target action act stepAt machineStep after decode ofBits toBits nanBits capacity recordAt putRecord sameWords isAt positionFrom position append wordOf words tail bytesOf bit clear flip found allocated freed parameters lookup free takeOut putBack smallestFrom smallestFree allFree without taken givenBack nodeWord nodeAt binaryOp unaryOp emitInstruction storeConstant wordsOf hasDestination offsetWord regOf numberOf constantWords source sameRegister nameOf materialized lowerMaterializing moved lowerName binarySources lowerArguments storeNamed storeKeyed lowerEntry lowerEntries lowerElse lowerTail lowerNode test fusedSources fuse jumpNode lowerExpression lowerJumpIfFalse lowerJumpIfTrue expressionBelow jumpBelow binaryRR binaryRK binaryKR unary comparison jumpRR jumpRK jumpKR jumpIf whole question1 question2 question3 question4 question5 question6 allBelow question7 question8 askNode askNodes questions begin lowerRoot loweredOf lowerChecked lower placed registered allocateTemp freeTemp destination emit store loadConstant putOffset patchToNext mark patchArgument patchMarks patchArguments present entryNodes children bind
 page-large rest = refl
 
 -- the law's own way there, for every flow that is not NaN
@@ -141,17 +141,17 @@ chosen true = tt
 chosen false = tt
 
 pub page-order : (x : Float) → isNan x ≡ false → OrderPremise ieee pageTree (λ r. number x) 5
-unfolding OrderPremise asksBelow nodeAsks conditionAsksBelow conditionAsks OrderAt worthBelow nodeWorth lastNamed operate compared numbers truthful isNan ofBits toBits nanBits capacity recordAt putRecord sameWords isAt positionFrom position append wordOf words tail bytesOf bit clear flip found allocated freed parameters lookup free takeOut putBack smallestFrom smallestFree allFree without taken givenBack nodeWord nodeAt binaryOp unaryOp emitInstruction storeConstant wordsOf hasDestination offsetWord regOf numberOf constantWords source sameRegister nameOf materialized lowerMaterializing moved named binarySources lowerArguments storeNamed storeKeyed lowerEntry lowerEntries lowerElse lowerTail lowerNode tested fusedSources fused jumpNode lowerExpression lowerJumpIfFalse lowerJumpIfTrue expressionBelow jumpBelow binaryRR binaryRK binaryKR unary comparison jumpRR jumpRK jumpKR jumpIf whole question1 question2 question3 question4 question5 question6 allBelow question7 question8 askNode askNodes questions begin lowerRoot answered lowerChecked lower placed registered allocateTemp freeTemp destination emit store loadConstant withOffset patchToNext mark patchArgument patchMarks patchArguments present entryNodes children bind
+unfolding OrderPremise asksBelow nodeAsks conditionAsksBelow conditionAsks OrderAt valueBelow nodeValue lastNamed operate ieeeCompare onNumbers ieeeTest isNan ofBits toBits nanBits capacity recordAt putRecord sameWords isAt positionFrom position append wordOf words tail bytesOf bit clear flip found allocated freed parameters lookup free takeOut putBack smallestFrom smallestFree allFree without taken givenBack nodeWord nodeAt binaryOp unaryOp emitInstruction storeConstant wordsOf hasDestination offsetWord regOf numberOf constantWords source sameRegister nameOf materialized lowerMaterializing moved lowerName binarySources lowerArguments storeNamed storeKeyed lowerEntry lowerEntries lowerElse lowerTail lowerNode test fusedSources fuse jumpNode lowerExpression lowerJumpIfFalse lowerJumpIfTrue expressionBelow jumpBelow binaryRR binaryRK binaryKR unary comparison jumpRR jumpRK jumpKR jumpIf whole question1 question2 question3 question4 question5 question6 allBelow question7 question8 askNode askNodes questions begin lowerRoot loweredOf lowerChecked lower placed registered allocateTemp freeTemp destination emit store loadConstant putOffset patchToNext mark patchArgument patchMarks patchArguments present entryNodes children bind
 page-order x p =
     let o = numbers-ordered x three p refl in
     ((tt, met tt), met (met (o .0, o .1)), met (chosen (lt x three)))
 
 -- the value of the page
-pub page-worth : (x : Float) → worthAt ieee pageTree (λ r. number x) 5 ≡ worth (number (cond (lt x three) one two))
-unfolding worthAt worthBelow nodeWorth lastNamed operate compared numbers truthful ofBits toBits nanBits capacity recordAt putRecord sameWords isAt positionFrom position append wordOf words tail bytesOf bit clear flip found allocated freed parameters lookup free takeOut putBack smallestFrom smallestFree allFree without taken givenBack nodeWord nodeAt binaryOp unaryOp emitInstruction storeConstant wordsOf hasDestination offsetWord regOf numberOf constantWords source sameRegister nameOf materialized lowerMaterializing moved named binarySources lowerArguments storeNamed storeKeyed lowerEntry lowerEntries lowerElse lowerTail lowerNode tested fusedSources fused jumpNode lowerExpression lowerJumpIfFalse lowerJumpIfTrue expressionBelow jumpBelow binaryRR binaryRK binaryKR unary comparison jumpRR jumpRK jumpKR jumpIf whole question1 question2 question3 question4 question5 question6 allBelow question7 question8 askNode askNodes questions begin lowerRoot answered lowerChecked lower placed registered allocateTemp freeTemp destination emit store loadConstant withOffset patchToNext mark patchArgument patchMarks patchArguments present entryNodes children bind
-page-worth x = go (lt x three)
+pub page-value : (x : Float) → valueAt ieee pageTree (λ r. number x) 5 ≡ evaluates (number (cond (lt x three) one two))
+unfolding valueAt valueBelow nodeValue lastNamed operate ieeeCompare onNumbers ieeeTest ofBits toBits nanBits capacity recordAt putRecord sameWords isAt positionFrom position append wordOf words tail bytesOf bit clear flip found allocated freed parameters lookup free takeOut putBack smallestFrom smallestFree allFree without taken givenBack nodeWord nodeAt binaryOp unaryOp emitInstruction storeConstant wordsOf hasDestination offsetWord regOf numberOf constantWords source sameRegister nameOf materialized lowerMaterializing moved lowerName binarySources lowerArguments storeNamed storeKeyed lowerEntry lowerEntries lowerElse lowerTail lowerNode test fusedSources fuse jumpNode lowerExpression lowerJumpIfFalse lowerJumpIfTrue expressionBelow jumpBelow binaryRR binaryRK binaryKR unary comparison jumpRR jumpRK jumpKR jumpIf whole question1 question2 question3 question4 question5 question6 allBelow question7 question8 askNode askNodes questions begin lowerRoot loweredOf lowerChecked lower placed registered allocateTemp freeTemp destination emit store loadConstant putOffset patchToNext mark patchArgument patchMarks patchArguments present entryNodes children bind
+page-value x = go (lt x three)
   where
-    go : (b : Bool) → _≡_ {A = Worth Mismatch Datum} (cond b (worth (number one)) (worth (number two))) (worth (number (cond b one two)))
+    go : (b : Bool) → _≡_ {A = Evaluation Mismatch Datum} (cond b (evaluates (number one)) (evaluates (number two))) (evaluates (number (cond b one two)))
     go true = refl
     go false = refl
 
@@ -165,7 +165,7 @@ named-under n first u = u .0
 named-under n (later m) u = named-under n m (u .1)
 
 page-closed : (i : ℕ) → i < 6 → Under 6 (children (pageTree .list) (node pageTree i))
-unfolding ofBits toBits nanBits capacity recordAt putRecord sameWords isAt positionFrom position append wordOf words tail bytesOf bit clear flip found allocated freed parameters lookup free takeOut putBack smallestFrom smallestFree allFree without taken givenBack nodeWord nodeAt binaryOp unaryOp emitInstruction storeConstant wordsOf hasDestination offsetWord regOf numberOf constantWords source sameRegister nameOf materialized lowerMaterializing moved named binarySources lowerArguments storeNamed storeKeyed lowerEntry lowerEntries lowerElse lowerTail lowerNode tested fusedSources fused jumpNode lowerExpression lowerJumpIfFalse lowerJumpIfTrue expressionBelow jumpBelow binaryRR binaryRK binaryKR unary comparison jumpRR jumpRK jumpKR jumpIf whole question1 question2 question3 question4 question5 question6 allBelow question7 question8 askNode askNodes questions begin lowerRoot answered lowerChecked lower placed registered allocateTemp freeTemp destination emit store loadConstant withOffset patchToNext mark patchArgument patchMarks patchArguments present entryNodes children bind
+unfolding ofBits toBits nanBits capacity recordAt putRecord sameWords isAt positionFrom position append wordOf words tail bytesOf bit clear flip found allocated freed parameters lookup free takeOut putBack smallestFrom smallestFree allFree without taken givenBack nodeWord nodeAt binaryOp unaryOp emitInstruction storeConstant wordsOf hasDestination offsetWord regOf numberOf constantWords source sameRegister nameOf materialized lowerMaterializing moved lowerName binarySources lowerArguments storeNamed storeKeyed lowerEntry lowerEntries lowerElse lowerTail lowerNode test fusedSources fuse jumpNode lowerExpression lowerJumpIfFalse lowerJumpIfTrue expressionBelow jumpBelow binaryRR binaryRK binaryKR unary comparison jumpRR jumpRK jumpKR jumpIf whole question1 question2 question3 question4 question5 question6 allBelow question7 question8 askNode askNodes questions begin lowerRoot loweredOf lowerChecked lower placed registered allocateTemp freeTemp destination emit store loadConstant putOffset patchToNext mark patchArgument patchMarks patchArguments present entryNodes children bind
 page-closed zero h = tt
 page-closed (suc zero) h = tt
 page-closed (suc (suc zero)) h = (omega arith, (omega arith, tt))
@@ -179,7 +179,7 @@ page-reach here h = h
 page-reach (below {i = i} n r) h = page-reach r (named-under 6 n (page-closed i h))
 
 page-kinds : (i : ℕ) → i < 6 → Plain (node pageTree i)
-unfolding Plain ofBits toBits nanBits capacity recordAt putRecord sameWords isAt positionFrom position append wordOf words tail bytesOf bit clear flip found allocated freed parameters lookup free takeOut putBack smallestFrom smallestFree allFree without taken givenBack nodeWord nodeAt binaryOp unaryOp emitInstruction storeConstant wordsOf hasDestination offsetWord regOf numberOf constantWords source sameRegister nameOf materialized lowerMaterializing moved named binarySources lowerArguments storeNamed storeKeyed lowerEntry lowerEntries lowerElse lowerTail lowerNode tested fusedSources fused jumpNode lowerExpression lowerJumpIfFalse lowerJumpIfTrue expressionBelow jumpBelow binaryRR binaryRK binaryKR unary comparison jumpRR jumpRK jumpKR jumpIf whole question1 question2 question3 question4 question5 question6 allBelow question7 question8 askNode askNodes questions begin lowerRoot answered lowerChecked lower placed registered allocateTemp freeTemp destination emit store loadConstant withOffset patchToNext mark patchArgument patchMarks patchArguments present entryNodes children bind
+unfolding Plain ofBits toBits nanBits capacity recordAt putRecord sameWords isAt positionFrom position append wordOf words tail bytesOf bit clear flip found allocated freed parameters lookup free takeOut putBack smallestFrom smallestFree allFree without taken givenBack nodeWord nodeAt binaryOp unaryOp emitInstruction storeConstant wordsOf hasDestination offsetWord regOf numberOf constantWords source sameRegister nameOf materialized lowerMaterializing moved lowerName binarySources lowerArguments storeNamed storeKeyed lowerEntry lowerEntries lowerElse lowerTail lowerNode test fusedSources fuse jumpNode lowerExpression lowerJumpIfFalse lowerJumpIfTrue expressionBelow jumpBelow binaryRR binaryRK binaryKR unary comparison jumpRR jumpRK jumpKR jumpIf whole question1 question2 question3 question4 question5 question6 allBelow question7 question8 askNode askNodes questions begin lowerRoot loweredOf lowerChecked lower placed registered allocateTemp freeTemp destination emit store loadConstant putOffset patchToNext mark patchArgument patchMarks patchArguments present entryNodes children bind
 page-kinds zero h = tt
 page-kinds (suc zero) h = tt
 page-kinds (suc (suc zero)) h = tt
@@ -207,34 +207,34 @@ pub page-returns : (x : Float) → isNan x ≡ false → (rest : Registers ieee)
 unfolding page page-start
 page-returns x p rest =
     running-law (bytesOf pageNodes) [] (bytesOf (7 ∷ [])) 5 (replicate 32 9) (replicate 12 9) (replicate 2 9) page-plain page-accepted
-    .returns (page-start x p (fill ieee rest 0 (number x)) refl) (number (cond (lt x three) one two)) .0 (page-worth x)
+    .returns (page-start x p (fill ieee rest 0 (number x)) refl) (number (cond (lt x three) one two)) .0 (page-value x)
 
 -- ---- NaN: `if x < 1 1 else 2`, x = symbol 7, the smallest rule that shows it
 
 -- the test is false, so the value of the rule is 2
-nan-worth : worthAt ieee ruleTree (λ r. number nan) 4 ≡ worth (number two)
-unfolding worthAt worthBelow nodeWorth lastNamed operate compared numbers truthful lt ofBits toBits nanBits capacity recordAt putRecord sameWords isAt positionFrom position append wordOf words tail bytesOf bit clear flip found allocated freed parameters lookup free takeOut putBack smallestFrom smallestFree allFree without taken givenBack nodeWord nodeAt binaryOp unaryOp emitInstruction storeConstant wordsOf hasDestination offsetWord regOf numberOf constantWords source sameRegister nameOf materialized lowerMaterializing moved named binarySources lowerArguments storeNamed storeKeyed lowerEntry lowerEntries lowerElse lowerTail lowerNode tested fusedSources fused jumpNode lowerExpression lowerJumpIfFalse lowerJumpIfTrue expressionBelow jumpBelow binaryRR binaryRK binaryKR unary comparison jumpRR jumpRK jumpKR jumpIf whole question1 question2 question3 question4 question5 question6 allBelow question7 question8 askNode askNodes questions begin lowerRoot answered lowerChecked lower placed registered allocateTemp freeTemp destination emit store loadConstant withOffset patchToNext mark patchArgument patchMarks patchArguments present entryNodes children bind
-nan-worth = refl
+nan-value : valueAt ieee ruleTree (λ r. number nan) 4 ≡ evaluates (number two)
+unfolding valueAt valueBelow nodeValue lastNamed operate ieeeCompare onNumbers ieeeTest lt ofBits toBits nanBits capacity recordAt putRecord sameWords isAt positionFrom position append wordOf words tail bytesOf bit clear flip found allocated freed parameters lookup free takeOut putBack smallestFrom smallestFree allFree without taken givenBack nodeWord nodeAt binaryOp unaryOp emitInstruction storeConstant wordsOf hasDestination offsetWord regOf numberOf constantWords source sameRegister nameOf materialized lowerMaterializing moved lowerName binarySources lowerArguments storeNamed storeKeyed lowerEntry lowerEntries lowerElse lowerTail lowerNode test fusedSources fuse jumpNode lowerExpression lowerJumpIfFalse lowerJumpIfTrue expressionBelow jumpBelow binaryRR binaryRK binaryKR unary comparison jumpRR jumpRK jumpKR jumpIf whole question1 question2 question3 question4 question5 question6 allBelow question7 question8 askNode askNodes questions begin lowerRoot loweredOf lowerChecked lower placed registered allocateTemp freeTemp destination emit store loadConstant putOffset patchToNext mark patchArgument patchMarks patchArguments present entryNodes children bind
+nan-value = refl
 
 -- the code returns 1
 nan-then : (rest : Registers ieee) → ruleRun nan rest 4 ≡ ended (returned (number one))
-unfolding rule compared numbers alike truthful lt le eq recordIn fetch constantAt constantOf target action act stepAt step after decode ofBits toBits nanBits capacity recordAt putRecord sameWords isAt positionFrom position append wordOf words tail bytesOf bit clear flip found allocated freed parameters lookup free takeOut putBack smallestFrom smallestFree allFree without taken givenBack nodeWord nodeAt binaryOp unaryOp emitInstruction storeConstant wordsOf hasDestination offsetWord regOf numberOf constantWords source sameRegister nameOf materialized lowerMaterializing moved named binarySources lowerArguments storeNamed storeKeyed lowerEntry lowerEntries lowerElse lowerTail lowerNode tested fusedSources fused jumpNode lowerExpression lowerJumpIfFalse lowerJumpIfTrue expressionBelow jumpBelow binaryRR binaryRK binaryKR unary comparison jumpRR jumpRK jumpKR jumpIf whole question1 question2 question3 question4 question5 question6 allBelow question7 question8 askNode askNodes questions begin lowerRoot answered lowerChecked lower placed registered allocateTemp freeTemp destination emit store loadConstant withOffset patchToNext mark patchArgument patchMarks patchArguments present entryNodes children bind
+unfolding rule ieeeCompare onNumbers alike ieeeTest lt le eq recordIn fetch constantAt constantOf target action act stepAt machineStep after decode ofBits toBits nanBits capacity recordAt putRecord sameWords isAt positionFrom position append wordOf words tail bytesOf bit clear flip found allocated freed parameters lookup free takeOut putBack smallestFrom smallestFree allFree without taken givenBack nodeWord nodeAt binaryOp unaryOp emitInstruction storeConstant wordsOf hasDestination offsetWord regOf numberOf constantWords source sameRegister nameOf materialized lowerMaterializing moved lowerName binarySources lowerArguments storeNamed storeKeyed lowerEntry lowerEntries lowerElse lowerTail lowerNode test fusedSources fuse jumpNode lowerExpression lowerJumpIfFalse lowerJumpIfTrue expressionBelow jumpBelow binaryRR binaryRK binaryKR unary comparison jumpRR jumpRK jumpKR jumpIf whole question1 question2 question3 question4 question5 question6 allBelow question7 question8 askNode askNodes questions begin lowerRoot loweredOf lowerChecked lower placed registered allocateTemp freeTemp destination emit store loadConstant putOffset patchToNext mark patchArgument patchMarks patchArguments present entryNodes children bind
 nan-then rest = refl
 
-met-worth : {F A : Type 0} {K : A → Type 0} {a : A} → IfAny {F = F} K (worth a) → K a
-met-worth (met k) = k
+met-value : {F A : Type 0} {K : A → Type 0} {a : A} → IfAny {F = F} K (evaluates a) → K a
+met-value (met k) = k
 
 -- the order premise does not hold there
 nan-premise : OrderPremise ieee ruleTree (λ r. number nan) 4 → ⊥
-unfolding OrderPremise asksBelow nodeAsks conditionAsksBelow conditionAsks OrderAt worthBelow nodeWorth lastNamed operate compared numbers truthful isNan ofBits toBits nanBits capacity recordAt putRecord sameWords isAt positionFrom position append wordOf words tail bytesOf bit clear flip found allocated freed parameters lookup free takeOut putBack smallestFrom smallestFree allFree without taken givenBack nodeWord nodeAt binaryOp unaryOp emitInstruction storeConstant wordsOf hasDestination offsetWord regOf numberOf constantWords source sameRegister nameOf materialized lowerMaterializing moved named binarySources lowerArguments storeNamed storeKeyed lowerEntry lowerEntries lowerElse lowerTail lowerNode tested fusedSources fused jumpNode lowerExpression lowerJumpIfFalse lowerJumpIfTrue expressionBelow jumpBelow binaryRR binaryRK binaryKR unary comparison jumpRR jumpRK jumpKR jumpIf whole question1 question2 question3 question4 question5 question6 allBelow question7 question8 askNode askNodes questions begin lowerRoot answered lowerChecked lower placed registered allocateTemp freeTemp destination emit store loadConstant withOffset patchToNext mark patchArgument patchMarks patchArguments present entryNodes children bind
-nan-premise h = nan-unordered one (met-worth (met-worth (h .1)) .0)
+unfolding OrderPremise asksBelow nodeAsks conditionAsksBelow conditionAsks OrderAt valueBelow nodeValue lastNamed operate ieeeCompare onNumbers ieeeTest isNan ofBits toBits nanBits capacity recordAt putRecord sameWords isAt positionFrom position append wordOf words tail bytesOf bit clear flip found allocated freed parameters lookup free takeOut putBack smallestFrom smallestFree allFree without taken givenBack nodeWord nodeAt binaryOp unaryOp emitInstruction storeConstant wordsOf hasDestination offsetWord regOf numberOf constantWords source sameRegister nameOf materialized lowerMaterializing moved lowerName binarySources lowerArguments storeNamed storeKeyed lowerEntry lowerEntries lowerElse lowerTail lowerNode test fusedSources fuse jumpNode lowerExpression lowerJumpIfFalse lowerJumpIfTrue expressionBelow jumpBelow binaryRR binaryRK binaryKR unary comparison jumpRR jumpRK jumpKR jumpIf whole question1 question2 question3 question4 question5 question6 allBelow question7 question8 askNode askNodes questions begin lowerRoot loweredOf lowerChecked lower placed registered allocateTemp freeTemp destination emit store loadConstant putOffset patchToNext mark patchArgument patchMarks patchArguments present entryNodes children bind
+nan-premise h = nan-unordered one (met-value (met-value (h .1)) .0)
 
 -- "With a NaN the then-branch runs, where IEEE 754 says the test is false.": the value of the rule is 2 and its code returns 1, since the premise fails
 pub nan-runs-then : (rest : Registers ieee) →
     (OrderPremise ieee ruleTree (λ r. number nan) 4 → ⊥)
-    × (worthAt ieee ruleTree (λ r. number nan) 4 ≡ worth (number two))
+    × (valueAt ieee ruleTree (λ r. number nan) 4 ≡ evaluates (number two))
     × (ruleRun nan rest 4 ≡ ended (returned (number one)))
-nan-runs-then rest = (nan-premise, nan-worth, nan-then rest)
+nan-runs-then rest = (nan-premise, nan-value, nan-then rest)
 
 -- ---- no failure at all: two values, and operators that always answer
 
@@ -273,18 +273,18 @@ below-zero = refl
 module _ (M : Operators) (pool : List ℕ) (count : ℕ) (R : Registers M) where
   -- where no instruction is, the run ends with neither value nor failure
   pub no-instruction : after M (constantAt M pool count) (fetch [] 7) 1 (Now.at 0 R) ≡ ended lost
-  unfolding after step stepAt fetch recordIn capacity
+  unfolding after machineStep stepAt fetch recordIn capacity
   no-instruction = refl
 
   -- so it does at a kind that is none, at a call, and at a constant that is not there
   pub no-kind : after M (constantAt M pool count) (fetch (55 ∷ 0 ∷ 0 ∷ 0 ∷ []) 1) 1 (Now.at 0 R) ≡ ended lost
-  unfolding after step stepAt fetch recordIn capacity recordAt decode
+  unfolding after machineStep stepAt fetch recordIn capacity recordAt decode
   no-kind = refl
 
   pub no-call : after M (constantAt M pool count) (fetch (39 ∷ 0 ∷ 0 ∷ 0 ∷ []) 1) 1 (Now.at 0 R) ≡ ended lost
-  unfolding after step stepAt fetch recordIn capacity recordAt decode action act
+  unfolding after machineStep stepAt fetch recordIn capacity recordAt decode action act
   no-call = refl
 
   pub no-constant : after M (constantAt M [] 7) (fetch (26 ∷ 0 ∷ 0 ∷ 0 ∷ []) 1) 1 (Now.at 0 R) ≡ ended lost
-  unfolding after step stepAt fetch recordIn capacity recordAt decode action act constantAt
+  unfolding after machineStep stepAt fetch recordIn capacity recordAt decode action act constantAt
   no-constant = refl

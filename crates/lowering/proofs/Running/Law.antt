@@ -18,9 +18,9 @@ use Rattle.runtime.specs.Instruction.{instructionWidth, decode}
 use Rattle.runtime.specs.Value.{constantWidth}
 use Rattle.lowering.specs.Walk.{Made}
 use Rattle.lowering.specs.Result.{begin}
-use Rattle.lowering.specs.Meaning.{val, fail, Operators, Worth, worth, fails, undefined, worthAt}
-use Rattle.lowering.specs.Machine.{recordIn, fetch, constantAt, constantOf, Ending, returned, failed, lost, Registers, Now, ended, step, after}
-use Rattle.lowering.specs.Law.{Accepted, arity, instructions, Setting, ran, treeWorth, EndsWith, Runs, Exactly, Once, Parameters, Length, Defined}
+use Rattle.lowering.specs.Meaning.{val, fail, Operators, Evaluation, evaluates, fails, undefined, valueAt}
+use Rattle.lowering.specs.Machine.{recordIn, fetch, constantAt, constantOf, Ending, returned, failed, lost, Registers, Now, ended, machineStep, after}
+use Rattle.lowering.specs.Law.{Accepted, arity, instructions, Setting, ran, treeValue, EndsWith, EndsWithValue, ValueExactly, Once, Parameters, Length, Defined}
 use Rattle.lowering.proofs.Running.Steps.{Holds, holds-ends, count}
 use Rattle.lowering.proofs.Running.MachineRuns.{After, worked, broke, Known, World, Run, leave, last, next}
 use Rattle.lowering.proofs.Running.Promise.{Final, Owns}
@@ -32,17 +32,17 @@ module _ (M : Operators) (consts : ℕ → Option (M .Value)) (code : ℕ → Op
   pub after-add : (a b : ℕ) (s : Now M) → after M consts code (a + b) s ≡ after M consts code a (after M consts code b s)
   unfolding after
   after-add zero b s = rw zero-add
-  after-add (suc a) b s = rw suc-add (ap (step M consts code) (after-add a b s))
+  after-add (suc a) b s = rw suc-add (ap (machineStep M consts code) (after-add a b s))
 
-  pub after-first : (n : ℕ) (s : Now M) → after M consts code (suc n) s ≡ after M consts code n (step M consts code s)
+  pub after-first : (n : ℕ) (s : Now M) → after M consts code (suc n) s ≡ after M consts code n (machineStep M consts code s)
   unfolding after
   after-first zero s = refl
-  after-first (suc n) s = ap (step M consts code) (after-first n s)
+  after-first (suc n) s = ap (machineStep M consts code) (after-first n s)
 
   pub after-ended : (n : ℕ) (e : Ending M) → after M consts code n (ended e) ≡ ended e
-  unfolding after step
+  unfolding after machineStep
   after-ended zero e = refl
-  after-ended (suc n) e = ap (step M consts code) (after-ended n e)
+  after-ended (suc n) e = ap (machineStep M consts code) (after-ended n e)
 
   pub after-later : (n k : ℕ) (s : Now M) {e : Ending M} → n ≤ k → after M consts code n s ≡ ended e → after M consts code k s ≡ ended e
   after-later n k s {e} l h =
@@ -150,14 +150,14 @@ short a =
     let z : count (beginning a) ≡ 0 = begin-count (a .code) (a .constants) (a .marks) (a .pooled) (arity a) in
     omega (arith, q .short)
 
-pub known-defined : {F A : Type 0} (r : Worth F A) → Known r → r ≢ undefined
-known-defined (worth a) k e = let z : _≡_ {A = ℕ} 0 1 = cc in omega arith
+pub known-defined : {F A : Type 0} (r : Evaluation F A) → Known r → r ≢ undefined
+known-defined (evaluates a) k e = let z : _≡_ {A = ℕ} 0 1 = cc in omega arith
 known-defined (fails x) k e = let z : _≡_ {A = ℕ} 0 1 = cc in omega arith
 known-defined undefined k e = k
 
 -- no accepted tree is undefined, whatever the operators
 pub defined : Defined
-defined a M args = known-defined (worthAt M (a .tree) args (a .root)) (rooted a M args .known)
+defined a M args = known-defined (valueAt M (a .tree) args (a .root)) (rooted a M args .known)
 
 -- ---- whole records
 
@@ -217,7 +217,7 @@ module _ (a : Accepted) (s : Setting a) where
   unfolding world
   unstopped p q h = false≢true h
 
-  runs-to : (e : Ending (s .operators)) → After (λ v. e ≡ returned v) (λ x. e ≡ failed x) (treeWorth a s) → Run (s .operators) (arity a) world (s .base) (s .registers) e
+  runs-to : (e : Ending (s .operators)) → After (λ v. e ≡ returned v) (λ x. e ≡ failed x) (treeValue a s) → Run (s .operators) (arity a) world (s .base) (s .registers) e
   unfolding world
   runs-to e k =
       let z : count (beginning a) ≡ 0 = begin-count (a .code) (a .constants) (a .marks) (a .pooled) (arity a) in
@@ -226,29 +226,29 @@ module _ (a : Accepted) (s : Setting a) where
       (rooted a (s .operators) (s .parameters) .sim (s .hypotheses) world final (s .registers) e (s .filled) (s .order) k)
 
   -- how the run ends
-  ends-as : (r : Worth (s .operators .Failure) (s .operators .Value)) → Known r → (e : Ending (s .operators)) × After (λ v. e ≡ returned v) (λ x. e ≡ failed x) r
-  ends-as (worth v) k = (returned v, worked refl)
+  ends-as : (r : Evaluation (s .operators .Failure) (s .operators .Value)) → Known r → (e : Ending (s .operators)) × After (λ v. e ≡ returned v) (λ x. e ≡ failed x) r
+  ends-as (evaluates v) k = (returned v, worked refl)
   ends-as (fails x) k = (failed x, broke refl)
   ends-as undefined k = absurd k
 
-  tree-ends : (e : Ending (s .operators)) × After (λ v. e ≡ returned v) (λ x. e ≡ failed x) (treeWorth a s)
-  tree-ends = ends-as (treeWorth a s) (rooted a (s .operators) (s .parameters) .known)
+  tree-ends : (e : Ending (s .operators)) × After (λ v. e ≡ returned v) (λ x. e ≡ failed x) (treeValue a s)
+  tree-ends = ends-as (treeValue a s) (rooted a (s .operators) (s .parameters) .known)
 
   tree-run : Run (s .operators) (arity a) world (s .base) (s .registers) (tree-ends .0)
   tree-run = runs-to (tree-ends .0) (tree-ends .1)
 
-  ends-with : (r : Worth (s .operators .Failure) (s .operators .Value)) (e : Ending (s .operators)) (now : Now (s .operators)) →
+  ends-with : (r : Evaluation (s .operators .Failure) (s .operators .Value)) (e : Ending (s .operators)) (now : Now (s .operators)) →
       After (λ v. e ≡ returned v) (λ x. e ≡ failed x) r → now ≡ ended e → EndsWith (s .operators) r now
-  ends-with (worth v) e now (worked k) h = h ∙ ap ended k
+  ends-with (evaluates v) e now (worked k) h = h ∙ ap ended k
   ends-with (fails x) e now (broke k) h = h ∙ ap ended k
 
 -- "running its code returns the tree's value exactly when the tree has one, and otherwise ends with the tree's failure", in at most as many steps
 -- as there are instructions
-pub runs : Runs
+pub runs : EndsWithValue
 unfolding world
 runs a s =
     let r = run-ends (s .operators) (arity a) (world a s) (unstopped a s) (tree-run a s) in
-    (r .0, omega (arith, r .1), ends-with a s (treeWorth a s) (tree-ends a s .0) (ran a s (r .0)) (tree-ends a s .1) (r .2))
+    (r .0, omega (arith, r .1), ends-with a s (treeValue a s) (tree-ends a s .0) (ran a s (r .0)) (tree-ends a s .1) (r .2))
 
 -- "no instruction runs twice": the places strictly increase
 pub once : Once
@@ -281,20 +281,20 @@ module _ (a : Accepted) (s : Setting a) where
       cc
 
   -- from an ending back to the value of the tree
-  value-back : (r : Worth (s .operators .Failure) (s .operators .Value)) (n k : ℕ) {v : s .operators .Value} →
-      EndsWith (s .operators) r (ran a s n) → Ended k (returned v) → r ≡ worth v
-  value-back (worth u) n k {v} h g = let q : _≡_ {A = Ending (s .operators)} (returned u) (returned v) = same-ending n k h g in cc
+  value-back : (r : Evaluation (s .operators .Failure) (s .operators .Value)) (n k : ℕ) {v : s .operators .Value} →
+      EndsWith (s .operators) r (ran a s n) → Ended k (returned v) → r ≡ evaluates v
+  value-back (evaluates u) n k {v} h g = let q : _≡_ {A = Ending (s .operators)} (returned u) (returned v) = same-ending n k h g in cc
   value-back (fails x) n k {v} h g = let q : _≡_ {A = Ending (s .operators)} (failed x) (returned v) = same-ending n k h g in cc
   value-back undefined n k h g = absurd h
 
-  failure-back : (r : Worth (s .operators .Failure) (s .operators .Value)) (n k : ℕ) {x : s .operators .Failure} →
+  failure-back : (r : Evaluation (s .operators .Failure) (s .operators .Value)) (n k : ℕ) {x : s .operators .Failure} →
       EndsWith (s .operators) r (ran a s n) → Ended k (failed x) → r ≡ fails x
-  failure-back (worth u) n k {x} h g = let q : _≡_ {A = Ending (s .operators)} (returned u) (failed x) = same-ending n k h g in cc
+  failure-back (evaluates u) n k {x} h g = let q : _≡_ {A = Ending (s .operators)} (returned u) (failed x) = same-ending n k h g in cc
   failure-back (fails y) n k {x} h g = let q : _≡_ {A = Ending (s .operators)} (failed y) (failed x) = same-ending n k h g in cc
   failure-back undefined n k h g = absurd h
 
-  never-lost : (r : Worth (s .operators .Failure) (s .operators .Value)) (n k : ℕ) → EndsWith (s .operators) r (ran a s n) → Ended k lost → ⊥
-  never-lost (worth u) n k h g =
+  never-lost : (r : Evaluation (s .operators .Failure) (s .operators .Value)) (n k : ℕ) → EndsWith (s .operators) r (ran a s n) → Ended k lost → ⊥
+  never-lost (evaluates u) n k h g =
       let q : _≡_ {A = Ending (s .operators)} (returned u) lost = same-ending n k h g in
       let z : _≡_ {A = ℕ} 0 1 = cc in
       omega arith
@@ -305,10 +305,10 @@ module _ (a : Accepted) (s : Setting a) where
   never-lost undefined n k h g = h
 
 -- "returns the tree's value exactly when the tree has one, and otherwise ends with the tree's failure"
-pub exactly : Exactly
+pub exactly : ValueExactly
 exactly a s =
     let r = runs a s in (
-      λ v. (λ e. (r .0, subst (λ x. EndsWith (s .operators) x (ran a s (r .0))) e (r .2)), λ h. value-back a s (treeWorth a s) (r .0) (h .0) (r .2) (h .1)),
-      λ x. (λ e. (r .0, subst (λ y. EndsWith (s .operators) y (ran a s (r .0))) e (r .2)), λ h. failure-back a s (treeWorth a s) (r .0) (h .0) (r .2) (h .1)),
-      λ k h. never-lost a s (treeWorth a s) (r .0) k (r .2) h,
+      λ v. (λ e. (r .0, subst (λ x. EndsWith (s .operators) x (ran a s (r .0))) e (r .2)), λ h. value-back a s (treeValue a s) (r .0) (h .0) (r .2) (h .1)),
+      λ x. (λ e. (r .0, subst (λ y. EndsWith (s .operators) y (ran a s (r .0))) e (r .2)), λ h. failure-back a s (treeValue a s) (r .0) (h .0) (r .2) (h .1)),
+      λ k h. never-lost a s (treeValue a s) (r .0) k (r .2) h,
     )

@@ -12,51 +12,51 @@ use Rattle.syntax.specs.declared.ops.Comparison.{Comparison}
 use Rattle.runtime.specs.declared.instruction.Instruction.{Instruction}
 use Rattle.runtime.specs.Instruction.{wordsOf, decode, offsetWord}
 use Rattle.lowering.specs.Operators.{binaryRR, binaryRK, binaryKR, jumpRR, jumpRK, jumpKR}
-use Rattle.lowering.specs.Meaning.{Answer, val, fail, equal, unequal, less, lessEqual, Operators, opposite, Hypotheses, Ordered, Worth, worth, fails, undefined, given, andThen, IfAny, met, unmet, unasked, truth, operate, AtRoot}
-use Rattle.lowering.specs.Machine.{action, target, Ending, returned, failed, Registers, Now, ended, fill, onward, goTo, branch, act, stepAt, step}
+use Rattle.lowering.specs.Meaning.{Answer, val, fail, equal, unequal, less, lessEqual, Operators, opposite, Hypotheses, Ordered, Evaluation, evaluates, fails, undefined, given, andThen, IfAny, met, unmet, unasked, truth, operate, AtRoot}
+use Rattle.lowering.specs.Machine.{action, target, Ending, returned, failed, Registers, Now, ended, fill, onward, goTo, branch, act, stepAt, machineStep}
 use Rattle.runtime.proofs.Encoding.{decode-words-of}
 use Rattle.lowering.proofs.Running.Decode.{aim}
 use Rattle.lowering.proofs.Running.Steps.{miss}
 
 -- ---- the value of a tree: K holds of it, or L of its failure; it is defined
 
-pub data After {F A : Type 0} (K : A → Type 0) (L : F → Type 0) : Worth F A → Type 0 where
-  worked : {a : A} → K a → After K L (worth a)
+pub data After {F A : Type 0} (K : A → Type 0) (L : F → Type 0) : Evaluation F A → Type 0 where
+  worked : {a : A} → K a → After K L (evaluates a)
   broke : {x : F} → L x → After K L (fails x)
 
-pub after-bind : {F A B : Type 0} (r : Worth F A) (k : A → Worth F B) {K : B → Type 0} {L : F → Type 0} →
+pub after-bind : {F A B : Type 0} (r : Evaluation F A) (k : A → Evaluation F B) {K : B → Type 0} {L : F → Type 0} →
     After K L (andThen r k) → After (λ a. After K L (k a)) L r
-after-bind (worth a) k h = worked h
+after-bind (evaluates a) k h = worked h
 after-bind (fails x) k (broke l) = broke l
 
-pub ask-bind : {F A B : Type 0} (r : Worth F A) (k : A → Worth F B) {K : B → Type 0} → IfAny K (andThen r k) → IfAny (λ a. IfAny K (k a)) r
-ask-bind (worth a) k h = met h
+pub ask-bind : {F A B : Type 0} (r : Evaluation F A) (k : A → Evaluation F B) {K : B → Type 0} → IfAny K (andThen r k) → IfAny (λ a. IfAny K (k a)) r
+ask-bind (evaluates a) k h = met h
 ask-bind (fails x) k h = unmet
 ask-bind undefined k h = unasked
 
-pub after-map : {F A : Type 0} {K K' : A → Type 0} {L : F → Type 0} {r : Worth F A} → After K L r → ((a : A) → K a → K' a) → After K' L r
+pub after-map : {F A : Type 0} {K K' : A → Type 0} {L : F → Type 0} {r : Evaluation F A} → After K L r → ((a : A) → K a → K' a) → After K' L r
 after-map (worked {a = a} k) f = worked (f a k)
 after-map (broke l) f = broke l
 
-pub after-ask : {F A : Type 0} {K K' K'' : A → Type 0} {L : F → Type 0} {r : Worth F A} →
+pub after-ask : {F A : Type 0} {K K' K'' : A → Type 0} {L : F → Type 0} {r : Evaluation F A} →
     After K L r → IfAny K' r → ((a : A) → K a → K' a → K'' a) → After K'' L r
 after-ask (worked {a = a} k) (met h) f = worked (f a k h)
 after-ask (broke l) h f = broke l
 
-pub after-worth : {F A : Type 0} {K : A → Type 0} {L : F → Type 0} {r : Worth F A} {a : A} → r ≡ worth a → After K L r → K a
-after-worth {F} {A} {K} {L} {r} {a} e h = go (subst (λ x. After K L x) e h)
+pub after-value : {F A : Type 0} {K : A → Type 0} {L : F → Type 0} {r : Evaluation F A} {a : A} → r ≡ evaluates a → After K L r → K a
+after-value {F} {A} {K} {L} {r} {a} e h = go (subst (λ x. After K L x) e h)
   where
-    go : After K L (worth a) → K a
+    go : After K L (evaluates a) → K a
     go (worked k) = k
 
 -- neither value nor failure
-abbrev pub Known : {F A : Type 0} → Worth F A → Type 0
-Known (worth a) = Unit {0}
+abbrev pub Known : {F A : Type 0} → Evaluation F A → Type 0
+Known (evaluates a) = Unit {0}
 Known (fails x) = Unit {0}
 Known undefined = ⊥
 
-pub known-bind : {F A B : Type 0} (r : Worth F A) (k : A → Worth F B) → Known r → ((a : A) → Known (k a)) → Known (andThen r k)
-known-bind (worth a) k h f = f a
+pub known-bind : {F A B : Type 0} (r : Evaluation F A) (k : A → Evaluation F B) → Known r → ((a : A) → Known (k a)) → Known (andThen r k)
+known-bind (evaluates a) k h f = f a
 known-bind (fails x) k h f = tt
 known-bind undefined k h f = absurd h
 
@@ -65,20 +65,20 @@ known-given (val a) = tt
 known-given (fail x) = tt
 
 -- two, left then right
-abbrev pub pairOf : {F A B : Type 0} → Worth F A → Worth F B → Worth F (A × B)
-pairOf r s = andThen r (λ a. andThen s (λ b. worth (a, b)))
+abbrev pub pairOf : {F A B : Type 0} → Evaluation F A → Evaluation F B → Evaluation F (A × B)
+pairOf r s = andThen r (λ a. andThen s (λ b. evaluates (a, b)))
 
-pub after-pair : {F A B C : Type 0} (r : Worth F A) (s : Worth F B) (k : A → B → Worth F C) {K : C → Type 0} {L : F → Type 0} →
+pub after-pair : {F A B C : Type 0} (r : Evaluation F A) (s : Evaluation F B) (k : A → B → Evaluation F C) {K : C → Type 0} {L : F → Type 0} →
     After K L (andThen r (λ a. andThen s (λ b. k a b))) → After (λ v. After K L (k (v .0) (v .1))) L (pairOf r s)
-after-pair (worth a) (worth b) k h = worked h
-after-pair (worth a) (fails x) k (broke l) = broke l
+after-pair (evaluates a) (evaluates b) k h = worked h
+after-pair (evaluates a) (fails x) k (broke l) = broke l
 after-pair (fails x) s k (broke l) = broke l
 
-pub ask-pair : {F A B : Type 0} {P : A → B → Type 0} (r : Worth F A) (s : Worth F B) →
+pub ask-pair : {F A B : Type 0} {P : A → B → Type 0} (r : Evaluation F A) (s : Evaluation F B) →
     IfAny (λ a. IfAny (λ b. P a b) s) r → IfAny (λ v. P (v .0) (v .1)) (pairOf r s)
-ask-pair (worth a) (worth b) (met (met h)) = met h
-ask-pair (worth a) (fails x) h = unmet
-ask-pair (worth a) undefined h = unasked
+ask-pair (evaluates a) (evaluates b) (met (met h)) = met h
+ask-pair (evaluates a) (fails x) h = unmet
+ask-pair (evaluates a) undefined h = unasked
 ask-pair (fails x) s h = unmet
 ask-pair undefined s h = unasked
 
@@ -97,12 +97,12 @@ after-sensed false P y n (val false) (worked k) = worked k
 after-sensed false P y n (fail x) (broke l) = broke l
 
 -- the order premise of two values, where it is asked
-pub premise-pair : {F A B : Type 0} (P : A → B → Type 0) (sense : Bool) (r : Worth F A) (s : Worth F B) →
+pub premise-pair : {F A B : Type 0} (P : A → B → Type 0) (sense : Bool) (r : Evaluation F A) (s : Evaluation F B) →
     AtRoot sense (IfAny (λ a. IfAny (λ b. P a b) s) r) → IfAny (λ v. AtRoot sense (P (v .0) (v .1))) (pairOf r s)
 premise-pair P false r s h = ask-pair r s h
-premise-pair P true (worth a) (worth b) h = met tt
-premise-pair P true (worth a) (fails x) h = unmet
-premise-pair P true (worth a) undefined h = unasked
+premise-pair P true (evaluates a) (evaluates b) h = met tt
+premise-pair P true (evaluates a) (fails x) h = unmet
+premise-pair P true (evaluates a) undefined h = unasked
 premise-pair P true (fails x) s h = unmet
 premise-pair P true undefined s h = unasked
 
@@ -116,7 +116,7 @@ after-truth M (val b) (worked k) = worked k
 after-truth M (fail x) (broke l) = broke l
 
 pub after-given : {F A : Type 0} {K : A → Type 0} {L : F → Type 0} {r : Answer F A} {a : A} → r ≡ val a → After K L (given r) → K a
-after-given e h = after-worth (ap given e) h
+after-given e h = after-value (ap given e) h
 
 -- ---- runs
 
@@ -131,7 +131,7 @@ pub record World (M : Operators) : Type 0 where
 
 module _ (M : Operators) (arity : ℕ) (w : World M) where
   abbrev pub stepOf : Now M → Now M
-  stepOf now = step M (w .consts) (w .code) now
+  stepOf now = machineStep M (w .consts) (w .code) now
 
   -- it ends, or is left
   pub data Run : ℕ → Registers M → Ending M → Type 0 where
@@ -150,12 +150,12 @@ module _ (M : Operators) (arity : ℕ) (w : World M) where
   onto l s (up h k) = next l s h (λ r z. refl) k
   onto l s (out x) = leave l s x (λ r z. refl)
 
-  pub moved : {p q : ℕ} {R : Registers M} {e : Ending M} → p ≡ q → Run p R e → Run q R e
-  moved {p} {q} {R} {e} s k = subst (λ x. Run x R e) s k
+  pub run-moved : {p q : ℕ} {R : Registers M} {e : Ending M} → p ≡ q → Run p R e → Run q R e
+  run-moved {p} {q} {R} {e} s k = subst (λ x. Run x R e) s k
 
   -- a step at a place whose words are known
   pub step-words : (ws : List ℕ) (p : ℕ) (R : Registers M) → w .code p ≡ decode ws → stepOf (Now.at p R) ≡ stepAt M (w .consts) (w .code) (decode ws) p R
-  unfolding step
+  unfolding machineStep
   step-words ws p R e = ap (λ i. stepAt M (w .consts) (w .code) i p R) e
 
   pub step-instruction : (i : Instruction) (p : ℕ) (R : Registers M) → w .code p ≡ decode (wordsOf i) → stepOf (Now.at p R) ≡ act M (w .consts) (action i) p R
@@ -166,7 +166,7 @@ module _ (M : Operators) (arity : ℕ) (w : World M) where
   pub run-fill : (r : Answer (M .Failure) (M .Value)) (p to d : ℕ) (R : Registers M) {e : Ending M} →
       stepOf (Now.at p R) ≡ onward M (w .consts) r (λ v. Now.at (suc p) (fill M R d v)) → p < w .limit → arity ≤ d → to ≡ suc p →
       After (λ v. Run to (fill M R d v) e) (λ x. e ≡ failed x) (given r) → Run p R e
-  run-fill (val v) p to d R s l h q (worked k) = next l s (omega arith) (λ r b. miss r d v (R r) (λ z. omega arith)) (moved q k)
+  run-fill (val v) p to d R s l h q (worked k) = next l s (omega arith) (λ r b. miss r d v (R r) (λ z. omega arith)) (run-moved q k)
   run-fill (fail x) p to d R s l h q (broke f) = last l (s ∙ ap ended (sym f))
 
   pub target-forward : (p k : ℕ) → k < 2147483648 → target p k ≡ some (p + k)
@@ -198,7 +198,7 @@ module _ (M : Operators) (arity : ℕ) (w : World M) where
 
   pub run-jump : (p to k : ℕ) (R : Registers M) {e : Ending M} → stepOf (Now.at p R) ≡ goTo M (w .consts) (target p k) R → p < w .limit →
       k < 2147483648 → to ≡ p + k → p < to → Run to R e → Run p R e
-  run-jump p to k R s l b z h g = next l (s ∙ ap (λ x. goTo M (w .consts) x R) (target-forward p k b)) (omega arith) (λ r y. refl) (moved z g)
+  run-jump p to k R s l b z h g = next l (s ∙ ap (λ x. goTo M (w .consts) x R) (target-forward p k b)) (omega arith) (λ r y. refl) (run-moved z g)
 
   pub run-return : (p r : ℕ) (R : Registers M) → stepOf (Now.at p R) ≡ ended (returned (R r)) → p < w .limit → Run p R (returned (R r))
   run-return p r R s l = last l s

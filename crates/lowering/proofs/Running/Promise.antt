@@ -20,20 +20,21 @@ use Rattle.lowering.specs.declared.Dest.{Dest}
 use Rattle.lowering.specs.Walk.{Made}
 use Rattle.lowering.specs.Steps.{destination, loadConstant}
 use Rattle.lowering.specs.Lower.{Source, materialized}
-use Rattle.lowering.specs.Meaning.{val, Operators, Hypotheses, Worth, worth}
+use Rattle.lowering.specs.Meaning.{val, Operators, Hypotheses, Evaluation, evaluates}
 use Rattle.lowering.specs.Machine.{constantOf, Ending, failed, Registers, action, act}
+use Rattle.lowering.specs.Trace.{registersOf, Held, Free}
 use Rattle.lowering.proofs.Running.Decode.{Proper, constant, constant-words}
-use Rattle.lowering.proofs.Running.Steps.{Holds, fine, chain, weaken, hit, miss, apart, count, recordOf, registersOf, Held, Free, Loose, Has, Room, Kept, Grown, grown-refl, grown-trans, Emitted, Pooled, Patched, emit-holds, pool-holds, take-holds}
-use Rattle.lowering.proofs.Running.MachineRuns.{After, worked, after-worth, Known, World, Run, step-instruction, run-fill}
+use Rattle.lowering.proofs.Running.Steps.{Holds, fine, chain, weaken, hit, miss, apart, count, instructionAt, Loose, Has, Room, CodeKept, Grown, grown-refl, grown-trans, InstructionPut, ConstantPooled, OffsetPut, emit-holds, pool-holds, take-holds}
+use Rattle.lowering.proofs.Running.MachineRuns.{After, worked, after-value, Known, World, Run, step-instruction, run-fill}
 
 -- the final code agrees with m at the places from lo to before hi, the final constants with m's, and the limit is past it
 pub record Final {M : Operators} (w : World M) (lo hi : ℕ) (m : Made) : Type 0 where
-  pub codes : (i : ℕ) → lo ≤ i → i < hi → w .code (w .base + i) ≡ decode (recordOf m i)
+  pub codes : (i : ℕ) → lo ≤ i → i < hi → w .code (w .base + i) ≡ decode (instructionAt m i)
   pub pools : (k : ℕ) (ws : List ℕ) → Has m k ws → w .consts k ≡ constantOf M ws
   pub top : w .base + hi ≤ w .limit
 
 pub earlier : {M : Operators} {w : World M} {lo hi lo' hi' b : ℕ} {m m' : Made} →
-    lo ≤ lo' → hi' ≤ hi → hi' ≤ b → Kept b m m' → Final w lo hi m' → Final w lo' hi' m
+    lo ≤ lo' → hi' ≤ hi → hi' ≤ b → CodeKept b m m' → Final w lo hi m' → Final w lo' hi' m
 earlier l h q g f = record {
   codes = λ i a z. f .codes i (le-trans l a) (lt-of-lt-of-le z h) ∙ ap decode (g .same i (lt-of-lt-of-le z q));
   pools = λ k ws x. f .pools k ws (g .consts k ws x);
@@ -42,7 +43,7 @@ earlier l h q g f = record {
 
 -- past the jump that is patched
 pub past-patch : {M : Operators} {w : World M} {lo hi lo' hi' j : ℕ} {m m' : Made} →
-    lo ≤ lo' → hi' ≤ hi → j < lo' → Patched j m m' → Final w lo hi m' → Final w lo' hi' m
+    lo ≤ lo' → hi' ≤ hi → j < lo' → OffsetPut j m m' → Final w lo hi m' → Final w lo' hi' m
 past-patch l h q g f = record {
   codes = λ i a z. f .codes i (le-trans l a) (lt-of-lt-of-le z h) ∙ ap decode (g .others i (λ e. omega arith));
   pools = λ k ws x. f .pools k ws (g .grown .kept .consts k ws x);
@@ -117,17 +118,17 @@ module _ (M : Operators) (args : ℕ → M .Value) (arity : ℕ) where
   params-kept m (Dest.To d) o t k a r h = k r (o .params r h) (λ e. omega (arith, t .0)) ∙ a r h
 
   -- what a run with ending e needs once an answer is worked out: to go on from place p where the answer is a value, which D finds in the registers
-  abbrev pub Onward : {A : Type 0} → World M → Ending M → ℕ → Made → Dest → Registers M → (World M → Registers M → A → Type 0) → Worth (M .Failure) A → Type 0
+  abbrev pub Onward : {A : Type 0} → World M → Ending M → ℕ → Made → Dest → Registers M → (World M → Registers M → A → Type 0) → Evaluation (M .Failure) A → Type 0
   Onward w e p m dest R D ans = After (λ v. (R' : Registers M) → D w R' v → Keeps m dest R R' → Run M arity w p R' e) (λ x. e ≡ failed x) ans
 
-  abbrev pub Sim : {A : Type 0} → Made → Made → Dest → Type 0 → Worth (M .Failure) A → (World M → Registers M → A → Type 0) → Type 0
+  abbrev pub Sim : {A : Type 0} → Made → Made → Dest → Type 0 → Evaluation (M .Failure) A → (World M → Registers M → A → Type 0) → Type 0
   Sim m m' dest fair ans D = (laws : Hypotheses M) (w : World M) → Final w (count m) (count m') m' →
       (R : Registers M) (e : Ending M) → Params R → fair →
       Onward w e (w .base + count m') m dest R D ans →
       Run M arity w (w .base + count m) R e
 
   -- lowered into a register
-  pub record Lowered (m : Made) (dest : Dest) (s : ℕ) (fair : Type 0) (ans : Worth (M .Failure) (M .Value)) (r : Register) (m' : Made) : Type 0 where
+  pub record LoweredInto (m : Made) (dest : Dest) (s : ℕ) (fair : Type 0) (ans : Evaluation (M .Failure) (M .Value)) (r : Register) (m' : Made) : Type 0 where
     pub grown : Grown (count m) m m'
     pub spot : Spot arity dest m r
     pub now : Held m' (regOf r)
@@ -136,17 +137,17 @@ module _ (M : Operators) (args : ℕ → M .Value) (arity : ℕ) where
     pub sim : Sim m m' dest fair ans (λ w R v. R (regOf r) ≡ v)
 
   -- lowered as an operand: a literal, and nothing made; or a register
-  pub data Expr (m : Made) (dest : Dest) (s : ℕ) (fair : Type 0) (ans : Worth (M .Failure) (M .Value)) : Source → Made → Type 0 where
-    literal : {c : Operand} → ans ≡ worth (constant M c) → Proper c → 1 ≤ s → Expr m dest s fair ans (Source.constant c) m
-    settled : {r : Register} {m' : Made} → Lowered m dest s fair ans r m' → Expr m dest s fair ans (Source.register r) m'
+  pub data Expr (m : Made) (dest : Dest) (s : ℕ) (fair : Type 0) (ans : Evaluation (M .Failure) (M .Value)) : Source → Made → Type 0 where
+    literal : {c : Operand} → ans ≡ evaluates (constant M c) → Proper c → 1 ≤ s → Expr m dest s fair ans (Source.constant c) m
+    in-register : {r : Register} {m' : Made} → LoweredInto m dest s fair ans r m' → Expr m dest s fair ans (Source.register r) m'
 
-  known-worth : {v : M .Value} (ans : Worth (M .Failure) (M .Value)) → ans ≡ worth v → Known ans
-  known-worth ans e = rw e tt
+  known-value : {v : M .Value} (ans : Evaluation (M .Failure) (M .Value)) → ans ≡ evaluates v → Known ans
+  known-value ans e = rw e tt
 
   -- a constant loaded into the destination
-  pub loaded : (c : Operand) {m m1 m2 m3 : Made} {dest : Dest} {s k n : ℕ} {d : Register} {fair : Type 0} {ans : Worth (M .Failure) (M .Value)} →
-      ans ≡ worth (constant M c) → Proper c → 1 ≤ s → Aimed arity m dest d m1 → Pooled (constantWords c) m1 k m2 →
-      Emitted (Instruction.LoadConst (regOf d) k) m2 n m3 → Lowered m dest s fair ans d m3
+  pub loaded : (c : Operand) {m m1 m2 m3 : Made} {dest : Dest} {s k n : ℕ} {d : Register} {fair : Type 0} {ans : Evaluation (M .Failure) (M .Value)} →
+      ans ≡ evaluates (constant M c) → Proper c → 1 ≤ s → Aimed arity m dest d m1 → ConstantPooled (constantWords c) m1 k m2 →
+      InstructionPut (Instruction.LoadConst (regOf d) k) m2 n m3 → LoweredInto m dest s fair ans d m3
   unfolding action act
   loaded c {m} {m1} {m2} {m3} {dest} {s} {k} {n} {d} {fair} {ans} v pc h a b g =
       let l1 = a .level in
@@ -157,7 +158,7 @@ module _ (M : Operators) (args : ℕ → M .Value) (arity : ℕ) where
         spot = a .spot;
         now = g .grown .held (regOf d) (b .grown .held (regOf d) (a .now));
         short = omega arith;
-        known = known-worth ans v;
+        known = known-value ans v;
         sim = λ laws w f R e pa fa k1.
             let there : w .consts k ≡ some (constant M c) = f .pools k (constantWords c) (g .grown .kept .consts k (constantWords c) (b .has)) ∙ constant-words M c pc in
             let fetched : w .code (w .base + count m) ≡ decode (wordsOf (Instruction.LoadConst (regOf d) k)) =
@@ -166,11 +167,11 @@ module _ (M : Operators) (args : ℕ → M .Value) (arity : ℕ) where
             run-fill M arity w (val (constant M c)) (w .base + count m) (w .base + count m3) (regOf d) R
             (step-instruction M arity w (Instruction.LoadConst (regOf d) k) (w .base + count m) R fetched ∙ rw there)
             inside (a .high) (omega arith)
-            (worked (after-worth v k1 _ (hit (regOf d) _ _) (λ q x y. miss q (regOf d) _ _ (a .fresh q x y))));
+            (worked (after-value v k1 _ (hit (regOf d) _ _) (λ q x y. miss q (regOf d) _ _ (a .fresh q x y))));
       }
 
-  pub load-good : (c : Operand) (m : Made) (dest : Dest) {s : ℕ} {fair : Type 0} {ans : Worth (M .Failure) (M .Value)} →
-      Owns arity m → Target arity m dest → ans ≡ worth (constant M c) → Proper c → 1 ≤ s → Holds (Lowered m dest s fair ans) (loadConstant c dest m)
+  pub load-good : (c : Operand) (m : Made) (dest : Dest) {s : ℕ} {fair : Type 0} {ans : Evaluation (M .Failure) (M .Value)} →
+      Owns arity m → Target arity m dest → ans ≡ evaluates (constant M c) → Proper c → 1 ≤ s → Holds (LoweredInto m dest s fair ans) (loadConstant c dest m)
   unfolding loadConstant
   load-good c m dest o t e pc h =
       chain (destination-good arity m dest o t) (λ d m1 a.
@@ -178,8 +179,8 @@ module _ (M : Operators) (args : ℕ → M .Value) (arity : ℕ) where
       chain (emit-holds (Instruction.LoadConst (regOf d) k) m2) (λ n m3 g.
       fine (loaded c e pc h a b g))))
 
-  pub materialized-good : {m m' : Made} {dest : Dest} {s : ℕ} {fair : Type 0} {ans : Worth (M .Failure) (M .Value)} {x : Source} →
-      Owns arity m → Target arity m dest → Expr m dest s fair ans x m' → Holds (Lowered m dest s fair ans) (materialized x dest m')
+  pub materialized-good : {m m' : Made} {dest : Dest} {s : ℕ} {fair : Type 0} {ans : Evaluation (M .Failure) (M .Value)} {x : Source} →
+      Owns arity m → Target arity m dest → Expr m dest s fair ans x m' → Holds (LoweredInto m dest s fair ans) (materialized x dest m')
   unfolding materialized
-  materialized-good o t (settled l) = fine l
+  materialized-good o t (in-register l) = fine l
   materialized-good {m} {dest = dest} o t (literal {c = c} e pc h) = load-good c m dest o t e pc h

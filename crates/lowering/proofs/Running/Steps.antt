@@ -30,7 +30,8 @@ use Rattle.runtime.specs.Instruction.{instructionWidth, wordsOf, offsetWord}
 use Rattle.runtime.specs.Value.{constantWidth, constantWords}
 use Rattle.runtime.specs.Function.{emitInstruction, storeConstant}
 use Rattle.lowering.specs.Walk.{Made, Outcome, ends, stops, Walk, bind, _>>=_}
-use Rattle.lowering.specs.Steps.{placed, registered, withRegisters, withCode, withConstants, allocateTemp, freeTemp, emit, store, withOffset, patchToNext}
+use Rattle.lowering.specs.Steps.{placed, registered, withRegisters, withCode, withConstants, allocateTemp, freeTemp, emit, store, putOffset, patchToNext}
+use Rattle.lowering.specs.Trace.{registersOf, Held, Free}
 use Rattle.runtime.proofs.Encoding.{length-words-of}
 use Rattle.lowering.proofs.Running.Decode.{aim, offset-small, record-set-same, record-set-other, constant-length}
 
@@ -67,17 +68,8 @@ abbrev pub count : Made → ℕ
 count m = m .state .instructions
 
 -- the words of the instruction at a place
-abbrev pub recordOf : Made → ℕ → List ℕ
-recordOf m i = recordAt instructionWidth (m .code) i
-
-abbrev pub registersOf : Made → RegisterSet
-registersOf m = m .state .registers
-
-abbrev pub Held : Made → ℕ → Type 0
-Held m r = held (registersOf m) r ≡ true
-
-abbrev pub Free : Made → ℕ → Type 0
-Free m r = held (registersOf m) r ≡ false
+abbrev pub instructionAt : Made → ℕ → List ℕ
+instructionAt m i = recordAt instructionWidth (m .code) i
 
 pub apart : (s : RegisterSet) {k r : ℕ} → held s k ≡ true → held s r ≡ false → k ≢ r
 apart s p q e = let z : _≡_ {A = Bool} true false = cc in true≢false z
@@ -99,24 +91,24 @@ pub record Room (m : Made) : Type 0 where
   pub small : count m ≤ 1048576
 
 -- what is kept from m to m': the code below place b, the constants, and how many marks there are
-pub record Kept (b : ℕ) (m m' : Made) : Type 0 where
+pub record CodeKept (b : ℕ) (m m' : Made) : Type 0 where
   pub more : count m ≤ count m'
-  pub same : (i : ℕ) → i < b → recordOf m' i ≡ recordOf m i
+  pub same : (i : ℕ) → i < b → instructionAt m' i ≡ instructionAt m i
   pub consts : (k : ℕ) (ws : List ℕ) → Has m k ws → Has m' k ws
   pub room : Room m → Room m'
   pub marks : m' .state .marks ≡ m .state .marks
 
 -- and the held registers
 pub record Grown (b : ℕ) (m m' : Made) : Type 0 where
-  pub kept : Kept b m m'
+  pub kept : CodeKept b m m'
   pub held : (r : ℕ) → Held m r → Held m' r
   pub sound : Sound (registersOf m) → Sound (registersOf m')
 
-pub kept-refl : (b : ℕ) (m : Made) → Kept b m m
-kept-refl b m = record { more = le-refl _; same = λ i h. refl; consts = λ k ws h. h; room = λ h. h; marks = refl }
+pub code-kept-refl : (b : ℕ) (m : Made) → CodeKept b m m
+code-kept-refl b m = record { more = le-refl _; same = λ i h. refl; consts = λ k ws h. h; room = λ h. h; marks = refl }
 
-pub kept-trans : {b c : ℕ} {m m' m'' : Made} → b ≤ c → Kept b m m' → Kept c m' m'' → Kept b m m''
-kept-trans l g h = record {
+pub code-kept-trans : {b c : ℕ} {m m' m'' : Made} → b ≤ c → CodeKept b m m' → CodeKept c m' m'' → CodeKept b m m''
+code-kept-trans l g h = record {
   more = le-trans (g .more) (h .more);
   same = λ i q. h .same i (lt-of-lt-of-le q l) ∙ g .same i q;
   consts = λ k ws x. h .consts k ws (g .consts k ws x);
@@ -125,11 +117,11 @@ kept-trans l g h = record {
 }
 
 pub grown-refl : (b : ℕ) (m : Made) → Grown b m m
-grown-refl b m = record { kept = kept-refl b m; held = λ r h. h; sound = λ h. h }
+grown-refl b m = record { kept = code-kept-refl b m; held = λ r h. h; sound = λ h. h }
 
 pub grown-trans : {b c : ℕ} {m m' m'' : Made} → b ≤ c → Grown b m m' → Grown c m' m'' → Grown b m m''
 grown-trans l g h = record {
-  kept = kept-trans l (g .kept) (h .kept);
+  kept = code-kept-trans l (g .kept) (h .kept);
   held = λ r x. h .held r (g .held r x);
   sound = λ x. h .sound (g .sound x);
 }
@@ -138,7 +130,7 @@ pub grown-at : {b c : ℕ} {m m' : Made} → b ≤ c → Grown c m m' → Grown 
 grown-at {b} {c} {m} {m'} h g = grown-trans h (grown-refl b m) g
 
 -- other registers: the code and the pool as they were
-kept-registers : (b : ℕ) (m : Made) (s : RegisterSet) → Kept b m (withRegisters s m)
+kept-registers : (b : ℕ) (m : Made) (s : RegisterSet) → CodeKept b m (withRegisters s m)
 kept-registers b m s = record {
   more = le-refl _;
   same = λ i h. refl;
@@ -149,7 +141,7 @@ kept-registers b m s = record {
 
 -- ---- a register is taken
 
-pub record Took (m : Made) (r : Register) (m' : Made) : Type 0 where
+pub record RegisterTaken (m : Made) (r : Register) (m' : Made) : Type 0 where
   pub temporary : r ≡ Register.Temp (regOf r)
   pub was : Free m (regOf r)
   pub now : Held m' (regOf r)
@@ -157,7 +149,7 @@ pub record Took (m : Made) (r : Register) (m' : Made) : Type 0 where
   pub grown : Grown (count m) m m'
 
 took : (m : Made) (r : Register) (n : ℕ) (s : RegisterSet) → r ≡ Register.Temp n → Takes (registersOf m) n s → (Sound (registersOf m) → Sound s) →
-    Took m r (withRegisters s m)
+    RegisterTaken m r (withRegisters s m)
 unfolding regOf
 took m r n s e t sound =
     let same : regOf r ≡ n = ap regOf e in
@@ -173,12 +165,12 @@ took m r n s e t sound =
       };
     }
 
-pub take-holds : (m : Made) → Holds (Took m) (allocateTemp m)
+pub take-holds : (m : Made) → Holds (RegisterTaken m) (allocateTemp m)
 unfolding allocateTemp registered
 take-holds m = go (allocated Register.Temp (registersOf m) .register) refl
   where
     go : (f : Found) → allocated Register.Temp (registersOf m) .register ≡ f →
-        Holds (Took m) (registered f (withRegisters (allocated Register.Temp (registersOf m) .set) m))
+        Holds (RegisterTaken m) (registered f (withRegisters (allocated Register.Temp (registersOf m) .set) m))
     go (Found.At r) e =
         let k : Allocates Register.Temp (registersOf m) r (allocated Register.Temp (registersOf m) .set) = allocates Register.Temp (registersOf m) r e in
         fine (took m r (k .number) _ (k .of-kind) (k .takes) (allocated-sound Register.Temp (registersOf m)))
@@ -210,14 +202,14 @@ differ arity m (Register.Temp a) (Register.Local b) h f = tt
 differ arity m (Register.Local a) (Register.Temp b) h f = tt
 differ arity m (Register.Local a) (Register.Local b) h f = tt
 
-pub record Gave (b : ℕ) (m₀ m : Made) (r : Register) (m' : Made) : Type 0 where
+pub record RegisterGiven (b : ℕ) (m₀ m : Made) (r : Register) (m' : Made) : Type 0 where
   pub level : count m' ≡ count m
-  pub kept : Kept (count m) m m'
+  pub kept : CodeKept (count m) m m'
   pub grown : Grown b m₀ m'
   pub still : (x : Register) → Differ r x → Had m x → Had m' x
 
 pub give-holds : (arity : ℕ) {b : ℕ} {m₀ m : Made} (r : Register) → Loose arity m₀ r → Had m r → Sound (registersOf m) → b ≤ count m → Grown b m₀ m →
-    Holds (λ u m'. Gave b m₀ m r m') (freeTemp r m)
+    Holds (λ u m'. RegisterGiven b m₀ m r m') (freeTemp r m)
 unfolding freeTemp
 give-holds arity {b} {m₀} {m} (Register.Temp r) l h sound le g =
     let k : Gives (registersOf m) r (freed (registersOf m) (Register.Temp r)) = free-temporary (registersOf m) r sound h in
@@ -225,7 +217,7 @@ give-holds arity {b} {m₀} {m} (Register.Temp r) l h sound le g =
       level = refl;
       kept = kept-registers _ m (freed (registersOf m) (Register.Temp r));
       grown = record {
-        kept = kept-trans le (g .kept) (kept-registers _ m (freed (registersOf m) (Register.Temp r)));
+        kept = code-kept-trans le (g .kept) (kept-registers _ m (freed (registersOf m) (Register.Temp r)));
         held = λ q x. k .others q (apart (registersOf m₀) x l) ∙ g .held q x;
         sound = λ x. give-sound k (g .sound x);
       };
@@ -241,7 +233,7 @@ give-holds arity {b} {m₀} {m} (Register.Local r) l h sound le g =
       level = refl;
       kept = kept-registers _ m (freed (registersOf m) (Register.Local r));
       grown = record {
-        kept = kept-trans le (g .kept) (kept-registers _ m (freed (registersOf m) (Register.Local r)));
+        kept = code-kept-trans le (g .kept) (kept-registers _ m (freed (registersOf m) (Register.Local r)));
         held = λ q x. rw (free-local (registersOf m) r) (g .held q x);
         sound = λ x. rw (free-local (registersOf m) r) (g .sound x);
       };
@@ -254,10 +246,10 @@ give-holds arity {b} {m₀} {m} (Register.Local r) l h sound le g =
 
 -- ---- an instruction is emitted
 
-pub record Emitted (i : Instruction) (m : Made) (k : ℕ) (m' : Made) : Type 0 where
+pub record InstructionPut (i : Instruction) (m : Made) (k : ℕ) (m' : Made) : Type 0 where
   pub which : k ≡ count m
   pub level : count m' ≡ suc (count m)
-  pub there : (n : ℕ) → n ≡ count m → recordOf m' n ≡ wordsOf i
+  pub there : (n : ℕ) → n ≡ count m → instructionAt m' n ≡ wordsOf i
   pub grown : Grown (count m) m m'
 
 module _ (m : Made) (r : List ℕ) (e : length r ≡ instructionWidth) (l : count m < 1048576) (h : count m < capacity (length r) (m .code)) where
@@ -289,7 +281,7 @@ module _ (m : Made) (r : List ℕ) (e : length r ≡ instructionWidth) (l : coun
   }
 
 put-emitted : (i : Instruction) (m : Made) → count m < 1048576 → count m < capacity (length (wordsOf i)) (m .code) →
-    Emitted i m (count m) (withCode (putRecord (length (wordsOf i)) (m .code) (count m) (wordsOf i)) (count m + 1) m)
+    InstructionPut i m (count m) (withCode (putRecord (length (wordsOf i)) (m .code) (count m) (wordsOf i)) (count m + 1) m)
 unfolding put
 put-emitted i m l h = record {
   which = refl;
@@ -298,7 +290,7 @@ put-emitted i m l h = record {
   grown = put-grown m (wordsOf i) (length-words-of i) l h;
 }
 
-pub emit-holds : (i : Instruction) (m : Made) → Holds (Emitted i m) (emit i m)
+pub emit-holds : (i : Instruction) (m : Made) → Holds (InstructionPut i m) (emit i m)
 unfolding emit emitInstruction append placed
 emit-holds i m = go (ltb (count m) 1048576 && ltb (count m) (capacity (length (wordsOf i)) (m .code))) refl
   where
@@ -309,7 +301,7 @@ emit-holds i m = go (ltb (count m) 1048576 && ltb (count m) (capacity (length (w
     none = buffer (m .code) (record { count = count m; place = Place.Refused Refusal.Code })
 
     go : (b : Bool) → (ltb (count m) 1048576 && ltb (count m) (capacity (length (wordsOf i)) (m .code))) ≡ b →
-        Holds (Emitted i m) (placed (cond b full none .answer .place) (withCode (cond b full none .words) (cond b full none .answer .count) m))
+        Holds (InstructionPut i m) (placed (cond b full none .answer .place) (withCode (cond b full none .words) (cond b full none .answer .count) m))
     go true e =
         let both = and-true (ltb (count m) 1048576) (ltb (count m) (capacity (length (wordsOf i)) (m .code))) e in
         let l : count m < 1048576 = ltb-true _ _ (both .0) in
@@ -319,10 +311,10 @@ emit-holds i m = go (ltb (count m) 1048576 && ltb (count m) (capacity (length (w
 
 -- ---- a jump is patched
 
-pub record Patched (j : ℕ) (m m' : Made) : Type 0 where
+pub record OffsetPut (j : ℕ) (m m' : Made) : Type 0 where
   pub level : count m' ≡ count m
-  pub there : recordOf m' j ≡ aim (count m - j) (recordOf m j)
-  pub others : (i : ℕ) → i ≢ j → recordOf m' i ≡ recordOf m i
+  pub there : instructionAt m' j ≡ aim (count m - j) (instructionAt m j)
+  pub others : (i : ℕ) → i ≢ j → instructionAt m' i ≡ instructionAt m i
   pub grown : Grown j m m'
 
 set-capacity : (ws : List ℕ) (i v : ℕ) → capacity instructionWidth (set ws i v) ≡ capacity instructionWidth ws
@@ -331,32 +323,32 @@ set-capacity ws i v = rw (length-set ws i v)
 
 -- the words with another offset
 module _ (j o : ℕ) (m : Made) (r : Room m) (h : j < count m) where
-  pub kind-is : getD (recordOf m j) 0 0 ≡ getD (m .code) (instructionWidth * j) 0
+  pub kind-is : getD (instructionAt m j) 0 0 ≡ getD (m .code) (instructionWidth * j) 0
   kind-is = record-word instructionWidth (m .code) j 0 (omega arith) ∙ ap (λ n. getD (m .code) n 0) (add-zero (instructionWidth * j))
 
-  pub offset-there : recordAt instructionWidth (withOffset (m .code) j o) j ≡ aim o (recordOf m j)
-  unfolding withOffset aim
+  pub offset-there : recordAt instructionWidth (putOffset (m .code) j o) j ≡ aim o (instructionAt m j)
+  unfolding putOffset aim
   offset-there =
       rw kind-is
       (record-set-same (m .code) j (offsetWord (getD (m .code) (instructionWidth * j) 0)) o (offset-small _)
       (room instructionWidth (m .code) j (omega (arith, r .inside))))
 
-  pub offset-others : (i : ℕ) → i ≢ j → recordAt instructionWidth (withOffset (m .code) j o) i ≡ recordOf m i
-  unfolding withOffset
+  pub offset-others : (i : ℕ) → i ≢ j → recordAt instructionWidth (putOffset (m .code) j o) i ≡ instructionAt m i
+  unfolding putOffset
   offset-others i n = record-set-other (m .code) j (offsetWord (getD (m .code) (instructionWidth * j) 0)) o (offset-small _) i n
 
-  pub offset-capacity : capacity instructionWidth (withOffset (m .code) j o) ≡ capacity instructionWidth (m .code)
-  unfolding withOffset
+  pub offset-capacity : capacity instructionWidth (putOffset (m .code) j o) ≡ capacity instructionWidth (m .code)
+  unfolding putOffset
   offset-capacity = set-capacity (m .code) (instructionWidth * j + offsetWord (getD (m .code) (instructionWidth * j) 0)) o
 
-pub patch-holds : (j : ℕ) (m : Made) → Room m → j < count m → Holds (λ u m'. Patched j m m') (patchToNext j m)
+pub patch-holds : (j : ℕ) (m : Made) → Room m → j < count m → Holds (λ u m'. OffsetPut j m m') (patchToNext j m)
 unfolding patchToNext
 patch-holds j m r h = fine good
   where
     m' : Made
-    m' = withCode (withOffset (m .code) j (count m - j)) (count m) m
+    m' = withCode (putOffset (m .code) j (count m - j)) (count m) m
 
-    good : Patched j m m'
+    good : OffsetPut j m m'
     good = record {
       level = refl;
       there = offset-there j (count m - j) m r h;
@@ -376,13 +368,13 @@ patch-holds j m r h = fine good
 
 -- ---- a constant is pooled
 
-pub record Pooled (ws : List ℕ) (m : Made) (k : ℕ) (m' : Made) : Type 0 where
+pub record ConstantPooled (ws : List ℕ) (m : Made) (k : ℕ) (m' : Made) : Type 0 where
   pub has : Has m' k ws
   pub level : count m' ≡ count m
   pub grown : Grown (count m) m m'
 
 pool-new : (m : Made) (r : List ℕ) → length r ≡ constantWidth → m .state .constants < capacity (length r) (m .constants) →
-    Pooled r m (m .state .constants) (withConstants (putRecord (length r) (m .constants) (m .state .constants) r) (m .state .constants + 1) m)
+    ConstantPooled r m (m .state .constants) (withConstants (putRecord (length r) (m .constants) (m .state .constants) r) (m .state .constants + 1) m)
 pool-new m r e h =
     let n : ℕ = m .state .constants in
     record {
@@ -412,7 +404,7 @@ pool-new m r e h =
     }
 
 pool-old : (m : Made) (r : List ℕ) (k : ℕ) → length r ≡ constantWidth → k < m .state .constants → recordAt (length r) (m .constants) k ≡ r →
-    Pooled r m k (withConstants (m .constants) (m .state .constants) m)
+    ConstantPooled r m k (withConstants (m .constants) (m .state .constants) m)
 pool-old m r k e l q = record {
   has = record { inside = l; there = rw e at q; whole = e };
   level = refl;
@@ -429,7 +421,7 @@ pool-old m r k e l q = record {
   };
 }
 
-pub pool-holds : (c : Operand) (m : Made) → Holds (Pooled (constantWords c) m) (store c m)
+pub pool-holds : (c : Operand) (m : Made) → Holds (ConstantPooled (constantWords c) m) (store c m)
 unfolding store storeConstant append placed
 pool-holds c m = go (ltb place n) refl
   where
@@ -454,11 +446,11 @@ pool-holds c m = go (ltb place n) refl
     leave : Buffer → Outcome ℕ
     leave b = placed (b .answer .place) (withConstants (b .words) (b .answer .count) m)
 
-    new : (b : Bool) → (ltb n 4294967295 && ltb n (capacity (length r) (m .constants))) ≡ b → Holds (Pooled r m) (leave (cond b full none))
+    new : (b : Bool) → (ltb n 4294967295 && ltb n (capacity (length r) (m .constants))) ≡ b → Holds (ConstantPooled r m) (leave (cond b full none))
     new true e = fine (pool-new m r (constant-length c) (ltb-true _ _ (and-true (ltb n 4294967295) (ltb n (capacity (length r) (m .constants))) e .1)))
     new false e = void
 
-    go : (b : Bool) → ltb place n ≡ b → Holds (Pooled r m) (leave (cond b old (cond (ltb n 4294967295 && ltb n (capacity (length r) (m .constants))) full none)))
+    go : (b : Bool) → ltb place n ≡ b → Holds (ConstantPooled r m) (leave (cond b old (cond (ltb n 4294967295 && ltb n (capacity (length r) (m .constants))) full none)))
     go true e =
         let l : place < n = ltb-true _ _ e in
         fine (pool-old m r place (constant-length c) l (is-record (m .constants) r place (position-first (m .constants) r n .found (omega arith)) .1))

@@ -20,11 +20,11 @@ use Rattle.runtime.specs.Instruction.{instructionWidth, firstJump, lastJump, of
 use Rattle.runtime.specs.Value.{constantWidth}
 use Rattle.lowering.specs.Tree.{Tree, treeOf}
 use Rattle.lowering.specs.Checked.{AllYes, FirstNo}
-use Rattle.lowering.specs.Walk.{Made, stops, left}
-use Rattle.lowering.specs.Steps.{freeTemp, withOffset}
-use Rattle.lowering.specs.Result.{Result, Lowered, result, leaves, begin, lowerRoot, answered, lowerChecked, lower, canPatch, JumpPatched, patchJump}
+use Rattle.lowering.specs.Walk.{Made, stops, madeOf}
+use Rattle.lowering.specs.Steps.{freeTemp, putOffset}
+use Rattle.lowering.specs.Result.{Result, Lowered, result, lowered, begin, lowerRoot, loweredOf, lowerChecked, lower, canPatch, JumpPatched, patchJump}
 use Rattle.lowering.specs.Trace.{Own, instructionsOf, constantsOf, marksOf}
-use Rattle.lowering.specs.Answers.{start, Untouched, Stopped, StopsWith, Tells, Ended, marksMade, markCount, Within, kind, MayPatch, MayNot, index-past, count-past, kind-below, kind-past, OneWord}
+use Rattle.lowering.specs.Answers.{nothingMade, Untouched, Stopped, StopsWith, Tells, Ended, marksMade, markCount, Within, kind, MayPatch, MayNot, index-past, count-past, kind-below, kind-past, OneWord}
 use Rattle.lowering.proofs.Running.Decode.{offset-small}
 use Rattle.lowering.proofs.Questions.Checked.{questions-passed, questions-refused, and-left, and-right}
 use Rattle.lowering.proofs.Walk.NothingBeyond.{Grows, runs-grow}
@@ -119,7 +119,7 @@ module _ (nodes : List ℕ) (root mode : ℕ) (list names code constants marks :
       record { yes = y; made = m; is = q ∙ (λ i. stops (record { refusal = same i; place = k .place i; start = k .start i; end = k .end i }) m) }
 
   pub own-condition-exactly : (e : Error) → 9 ≤ refusalNumber (e .refusal) → Tells nodes root mode list names code constants marks (lower nodes root mode list names code constants marks .result) e ↔ StopsWith nodes root mode list names code constants marks e
-  unfolding lower lowerChecked answered
+  unfolding lower lowerChecked loweredOf
   own-condition-exactly e a = (
     told-stops (lower-came nodes root mode list names code constants marks) e a,
     λ h. rw (questions-passed nodes list names mode root .1 (h .yes), h .is) (record { number = refl; place = refl; start = refl; end = refl }),
@@ -129,7 +129,7 @@ module _ (nodes : List ℕ) (root mode : ℕ) (list names code constants marks :
   ended (before h) e = absurd (omega (arith, first-number h .0))
   ended (accepted {place = place} {m = m} y q r) e =
       let t : Tree = treeOf nodes list names in
-      let from : Made = start nodes root mode list names code constants marks in
+      let from : Made = nothingMade nodes root mode list names code constants marks in
       record {
         yes = y;
         place = place;
@@ -152,8 +152,8 @@ module _ (nodes : List ℕ) (root mode : ℕ) (list names code constants marks :
   unfolding capacity
   same-capacity w xs ys e = rw e
 
-  grown-within : (r : Result) (m : Made) → Grows (start nodes root mode list names code constants marks) m → r .instructions ≡ instructionsOf m → r .constants ≡ constantsOf m →
-      markCount nodes root mode list names code constants marks ≡ marksOf m → Within nodes root mode list names code constants marks (leaves r m)
+  grown-within : (r : Result) (m : Made) → Grows (nothingMade nodes root mode list names code constants marks) m → r .instructions ≡ instructionsOf m → r .constants ≡ constantsOf m →
+      markCount nodes root mode list names code constants marks ≡ marksOf m → Within nodes root mode list names code constants marks (lowered r m)
   unfolding begin
   grown-within r m g e f k = record {
     code-length = g .in-code .same-length;
@@ -172,11 +172,11 @@ module _ (nodes : List ℕ) (root mode : ℕ) (list names code constants marks :
   no-marks r place h = ap (marksMade nodes root mode list names code constants marks) (questions-refused nodes list names mode root r place .1 h)
 
   pub walk-marks : AllYes nodes list names mode root → (m : Made) →
-      left (lowerRoot freeTemp (treeOf nodes list names) mode root (start nodes root mode list names code constants marks)) ≡ m → markCount nodes root mode list names code constants marks ≡ marksOf m
+      madeOf (lowerRoot freeTemp (treeOf nodes list names) mode root (nothingMade nodes root mode list names code constants marks)) ≡ m → markCount nodes root mode list names code constants marks ≡ marksOf m
   walk-marks y m e = ap (marksMade nodes root mode list names code constants marks) (questions-passed nodes list names mode root .1 y) ∙ ap (λ n. marksOf n) e
 
   within : {l : Lowered} → Came nodes root mode list names code constants marks l → Within nodes root mode list names code constants marks l
-  unfolding begin left
+  unfolding begin madeOf
   within (before {r = r} {place = place} h) = record {
     code-length = refl;
     constants-length = refl;
@@ -189,8 +189,8 @@ module _ (nodes : List ℕ) (root mode : ℕ) (list names code constants marks :
     marks-past = λ i h. refl;
     marks-fit = omega (arith, no-marks r place h);
   }
-  within (accepted {m = m} y e r) = grown-within _ m (runs-grow r) refl refl (walk-marks y m (ap left e))
-  within (stopped {m = m} y e r o) = grown-within _ m (runs-grow r) refl refl (walk-marks y m (ap left e))
+  within (accepted {m = m} y e r) = grown-within _ m (runs-grow r) refl refl (walk-marks y m (ap madeOf e))
+  within (stopped {m = m} y e r o) = grown-within _ m (runs-grow r) refl refl (walk-marks y m (ap madeOf e))
 
   pub nothing-beyond : Within nodes root mode list names code constants marks (lower nodes root mode list names code constants marks)
   nothing-beyond = within (lower-came nodes root mode list names code constants marks)
@@ -199,7 +199,7 @@ module _ (nodes : List ℕ) (root mode : ℕ) (list names code constants marks :
 
 module _ (words : List ℕ) (count index offset : ℕ) where
   abbrev chosen : Bool → JumpPatched
-  chosen b = cond b (record { number = 0; code = withOffset words index offset }) (record { number = refusalNumber Refusal.Jump; code = words })
+  chosen b = cond b (record { number = 0; code = putOffset words index offset }) (record { number = refusalNumber Refusal.Jump; code = words })
 
   can-may : canPatch words count index ≡ true → MayPatch words count index offset
   unfolding canPatch
@@ -272,7 +272,7 @@ module _ (words : List ℕ) (count index offset : ℕ) where
       go false e = refl
 
   pub patch-writes-one : patchJump words count index offset .number ≡ 0 → OneWord words count index offset (patchJump words count index offset .code)
-  unfolding patchJump withOffset
+  unfolding patchJump putOffset
   patch-writes-one h =
       let p : MayPatch words count index offset = patched-exactly .0 h in
       let small : offsetWord (kind words count index offset) < 4 = offset-small (kind words count index offset) in

@@ -16,7 +16,7 @@ use Rattle.runtime.specs.Instruction.{offsetWord}
 use Rattle.lowering.specs.Questions.{whole, question1, question2, question3, question4, question5, question6, allBelow, question7, question8, Verdict, passed, refused, askNode, askNodes, questions}
 use Rattle.lowering.specs.Tree.{present, entryNodes, children}
 use Rattle.lowering.specs.Walk.{error}
-use Rattle.lowering.specs.Result.{answered}
+use Rattle.lowering.specs.Result.{loweredOf}
 use Rattle.lowering.specs.Checked.{AllYes, FirstNo}
 use Rattle.lowering.specs.Answers.{MayPatch, MayNot, index-past, count-past, kind-below, kind-past, OneWord}
 use Rattle.lowering.proofs.Questions.Checked.{questions-passed, questions-refused}
@@ -77,16 +77,16 @@ untouched-count-refuted u = omega (arith, u .no-instructions)
 
 -- what it stops with shows its number, place and span
 stops-number : {e : Error} → StopsWithOf e → refusalNumber (e .refusal) ≡ 11
-unfolding answered
-stops-number s = ap (λ x. x .result .number) (sym (ap (answered 1) (s .is)) ∙ no-else-right)
+unfolding loweredOf
+stops-number s = ap (λ x. x .result .number) (sym (ap (loweredOf 1) (s .is)) ∙ no-else-right)
 
 stops-place : {e : Error} → StopsWithOf e → e .place ≡ 2
-unfolding answered
-stops-place s = ap (λ x. x .result .place) (sym (ap (answered 1) (s .is)) ∙ no-else-right)
+unfolding loweredOf
+stops-place s = ap (λ x. x .result .place) (sym (ap (loweredOf 1) (s .is)) ∙ no-else-right)
 
 stops-end : {e : Error} → StopsWithOf e → e .end ≡ 12
-unfolding answered
-stops-end s = ap (λ x. x .result .end) (sym (ap (answered 1) (s .is)) ∙ no-else-right)
+unfolding loweredOf
+stops-end s = ap (λ x. x .result .end) (sym (ap (loweredOf 1) (s .is)) ∙ no-else-right)
 
 pub stops-number-refuted : StopsWithOf (error Refusal.Key 2 11 12) → ⊥
 stops-number-refuted s = omega (arith, stops-number s)

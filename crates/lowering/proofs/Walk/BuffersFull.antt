@@ -11,10 +11,10 @@ use Rattle.words.specs.Records.{capacity, maxCount}
 use Rattle.runtime.specs.Value.{constantWidth}
 use Rattle.runtime.specs.Function.{maxInstructions}
 use Rattle.lowering.specs.Tree.{Tree, treeOf}
-use Rattle.lowering.specs.Walk.{Made, left}
+use Rattle.lowering.specs.Walk.{Made, madeOf}
 use Rattle.lowering.specs.Result.{Lowered, begin, lower}
 use Rattle.lowering.specs.Trace.{Own, undeclared, registers, no-else, no-value, code as code-own, constants as constants-own, unmarked, marks as marks-own, no-destination, sum, instructionsOf, constantsOf, marksOf}
-use Rattle.lowering.specs.Answers.{start, markCount}
+use Rattle.lowering.specs.Answers.{nothingMade, markCount}
 use Rattle.lowering.specs.Pool.{Fit}
 use Rattle.lowering.proofs.Questions.Checked.{question1-sizes, question2-parts}
 use Rattle.lowering.proofs.Walk.NothingBeyond.{Grows, runs-grow}
@@ -53,7 +53,7 @@ module _ {t : Tree} {root : ℕ} where
 
 module _ (nodes : List ℕ) (root mode : ℕ) (list names code constants marks : List ℕ) where
   abbrev from : Made
-  from = start nodes root mode list names code constants marks
+  from = nothingMade nodes root mode list names code constants marks
 
   same-capacity : (w : ℕ) (xs ys : List ℕ) → length xs ≡ length ys → capacity w xs ≡ capacity w ys
   unfolding capacity
@@ -62,7 +62,7 @@ module _ (nodes : List ℕ) (root mode : ℕ) (list names code constants marks :
   -- 14: no whole record is left for a constant
   full-constants : {l : Lowered} → Came nodes root mode list names code constants marks l → l .result .number ≡ 14 → Fit nodes root mode list names code constants marks l →
       capacity constantWidth constants ≤ l .result .constants
-  unfolding left begin
+  unfolding madeOf begin
   full-constants (before h) e f = absurd (omega (arith, first-number h .1))
   full-constants (accepted y q r) e f = absurd (omega arith)
   full-constants (stopped {m = m} y q r o) e f =
@@ -76,7 +76,7 @@ module _ (nodes : List ℕ) (root mode : ℕ) (list names code constants marks :
   -- 16: no word is left for a mark
   full-marks : {l : Lowered} → Came nodes root mode list names code constants marks l → l .result .number ≡ 16 →
       capacity 1 marks ≤ markCount nodes root mode list names code constants marks
-  unfolding left begin
+  unfolding madeOf begin
   full-marks (before h) e = absurd (omega (arith, first-number h .1))
   full-marks (accepted y q r) e = absurd (omega arith)
   full-marks (stopped {e = f} {m = m} y q r o) e =
@@ -85,9 +85,9 @@ module _ (nodes : List ℕ) (root mode : ℕ) (list names code constants marks :
       let small = question2-parts mode root _ (y .start) .1 in
       let size = question1-sizes nodes list names (y .size) .few-nodes in
       let bound : marksOf m ≤ 0 + 255 * instructionsOf m + 255 * (root + 1) =
-      subst (λ n. marksOf n ≤ 0 + 255 * instructionsOf n + 255 * (root + 1)) (ap left q) (marks-few (treeOf nodes list names) (y .checked) mode root from) in
+      subst (λ n. marksOf n ≤ 0 + 255 * instructionsOf n + 255 * (root + 1)) (ap madeOf q) (marks-few (treeOf nodes list names) (y .checked) mode root from) in
       let full : capacity 1 marks ≤ marksOf m = rw (sym (same-capacity 1 (m .marks) marks (g .in-marks .same-length))) (own-marks o e (omega arith)) in
-      omega (arith, walk-marks nodes root mode list names code constants marks y m (ap left q))
+      omega (arith, walk-marks nodes root mode list names code constants marks y m (ap madeOf q))
 
   pub marks-full : lower nodes root mode list names code constants marks .result .number ≡ 16 → capacity 1 marks ≤ markCount nodes root mode list names code constants marks
   marks-full = full-marks (lower-came nodes root mode list names code constants marks)

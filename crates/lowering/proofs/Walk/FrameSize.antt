@@ -15,41 +15,41 @@ use Rattle.environment.specs.Environment.{parameters}
 use Rattle.environment.specs.Laws.{Sound, Takes}
 use Rattle.environment.proofs.Laws.{take-sound, raised, gives as gives-back, give-sound, parameters-held, parameters-frame, parameters-sound}
 use Rattle.lowering.specs.Tree.{Tree, treeOf}
-use Rattle.lowering.specs.Walk.{Made, Outcome, ends, Walk, left}
+use Rattle.lowering.specs.Walk.{Made, Outcome, ends, Walk, madeOf}
 use Rattle.lowering.specs.Steps.{withRegisters}
 use Rattle.lowering.specs.Result.{Lowered, begin, lower}
-use Rattle.lowering.specs.Trace.{Runs, step, returns, follows, halts, reads, counts, takes, gives, leaves, emits, finds, pools, patches, marks, moves, refuses, registersOf, Held}
-use Rattle.lowering.specs.Answers.{start}
-use Rattle.lowering.specs.Frame.{heldBelow, heldCount, frameOf, Smallest, highest, mostHeld, Every, Frames}
+use Rattle.lowering.specs.Trace.{Runs, step, returns, follows, halts, reads, counts, takes, gives, keeps, emits, finds, pools, patches, marks, moves, refuses, registersOf, Held}
+use Rattle.lowering.specs.Answers.{nothingMade}
+use Rattle.lowering.specs.Frame.{heldAmongFirst, heldCount, frameOf, Smallest, highest, mostHeld, Every, Frames}
 use Rattle.lowering.proofs.Walk.SmallestFirst.{smallest-first as first}
 use Rattle.lowering.proofs.Walk.LowerRuns.{Came, before, accepted, stopped, lower-came, few-names, first-number, own-number}
 
 -- at most f of them, if every held register is below f
-held-most : (s : RegisterSet) (f : ℕ) → ((r : ℕ) → held s r ≡ true → r < f) → (n : ℕ) → (heldBelow s n ≤ f) × (heldBelow s n ≤ n)
-unfolding heldBelow
+held-most : (s : RegisterSet) (f : ℕ) → ((r : ℕ) → held s r ≡ true → r < f) → (n : ℕ) → (heldAmongFirst s n ≤ f) × (heldAmongFirst s n ≤ n)
+unfolding heldAmongFirst
 held-most s f below zero = (omega arith, omega arith)
 held-most s f below (suc n) = go (held s n) refl (held-most s f below n)
   where
-    go : (b : Bool) → held s n ≡ b → (heldBelow s n ≤ f) × (heldBelow s n ≤ n) → (cond b 1 0 + heldBelow s n ≤ f) × (cond b 1 0 + heldBelow s n ≤ suc n)
+    go : (b : Bool) → held s n ≡ b → (heldAmongFirst s n ≤ f) × (heldAmongFirst s n ≤ n) → (cond b 1 0 + heldAmongFirst s n ≤ f) × (cond b 1 0 + heldAmongFirst s n ≤ suc n)
     go true e h = let l : n < f = below n e in (omega (arith, h .1), omega (arith, h .1))
     go false e h = (omega (arith, h .0), omega (arith, h .1))
 
 -- exactly f, if the held ones are those below f
-held-least : (s : RegisterSet) (f : ℕ) → ((r : ℕ) → r < f → held s r ≡ true) → (n : ℕ) → n ≤ f → heldBelow s n ≡ n
-unfolding heldBelow
+held-least : (s : RegisterSet) (f : ℕ) → ((r : ℕ) → r < f → held s r ≡ true) → (n : ℕ) → n ≤ f → heldAmongFirst s n ≡ n
+unfolding heldAmongFirst
 held-least s f all zero h = refl
 held-least s f all (suc n) h = rw (all n (omega arith)) (omega (arith, held-least s f all n (omega arith)))
 
-held-grows : (s : RegisterSet) (n m : ℕ) → n ≤ m → heldBelow s n ≤ heldBelow s m
-unfolding heldBelow
+held-grows : (s : RegisterSet) (n m : ℕ) → n ≤ m → heldAmongFirst s n ≤ heldAmongFirst s m
+unfolding heldAmongFirst
 held-grows s n zero h = let e : n ≡ 0 = omega arith in rw e (omega arith)
 held-grows s n (suc m) h = go (ℕ-discrete n (suc m)) (λ l. held-grows s n m l)
   where
-    go : Dec (n ≡ suc m) → (n ≤ m → heldBelow s n ≤ heldBelow s m) → heldBelow s n ≤ cond (held s m) 1 0 + heldBelow s m
+    go : Dec (n ≡ suc m) → (n ≤ m → heldAmongFirst s n ≤ heldAmongFirst s m) → heldAmongFirst s n ≤ cond (held s m) 1 0 + heldAmongFirst s m
     go (yes e) f = rw e (omega arith)
     go (no e) f = omega (arith, f (omega arith))
 
-few-held : (s : RegisterSet) → Sound s → heldBelow s 256 ≤ s .«frame_size»
+few-held : (s : RegisterSet) → Sound s → heldAmongFirst s 256 ≤ s .«frame_size»
 few-held s sound = held-most s (s .«frame_size») (sound .below) 256 .0
 
 -- a step that leaves the frame size
@@ -59,32 +59,32 @@ framed-still m n a b e = omega (arith, few-held (registersOf m) a, few-held (reg
 
 -- a take: where it raises the frame size, all below it are held
 framed-take : (m : Made) (s : RegisterSet) (r : ℕ) → Takes (registersOf m) r s → Sound (registersOf m) →
-    s .«frame_size» ≡ max (frameOf m) (max (heldCount m) (heldBelow s 256))
+    s .«frame_size» ≡ max (frameOf m) (max (heldCount m) (heldAmongFirst s 256))
 framed-take m s r k sound = go (decLt (frameOf m) (s .«frame_size»))
   where
     after : Sound s
     after = take-sound k sound
 
-    go : Dec (frameOf m < s .«frame_size») → s .«frame_size» ≡ max (frameOf m) (max (heldCount m) (heldBelow s 256))
+    go : Dec (frameOf m < s .«frame_size») → s .«frame_size» ≡ max (frameOf m) (max (heldCount m) (heldAmongFirst s 256))
     go (yes l) =
         let f : ℕ = s .«frame_size» in
         let small : f ≤ 256 = omega (arith, k .frame, k .in-range) in
-        let all : heldBelow s f ≡ f = held-least s f (λ j h. raised k sound l j .0 h) f (omega arith) in
-        let more : heldBelow s f ≤ heldBelow s 256 = held-grows s f 256 small in
+        let all : heldAmongFirst s f ≡ f = held-least s f (λ j h. raised k sound l j .0 h) f (omega arith) in
+        let more : heldAmongFirst s f ≤ heldAmongFirst s 256 = held-grows s f 256 small in
         omega (arith, few-held (registersOf m) sound, few-held s after)
     go (no l) = omega (arith, k .frame, few-held (registersOf m) sound, few-held s after)
 
 module _ {t : Tree} {root : ℕ} where
   -- what a run does to the registers
   record Framed {A : Type 0} {w : Walk A} {m : Made} {o : Outcome A} (r : Runs t root A w m o) : Type 0 where
-    pub sound : Sound (registersOf (left o))
-    pub by-highest : frameOf (left o) ≡ max (frameOf m) (highest r)
-    pub by-most : frameOf (left o) ≡ max (frameOf m) (mostHeld r)
+    pub sound : Sound (registersOf (madeOf o))
+    pub by-highest : frameOf (madeOf o) ≡ max (frameOf m) (highest r)
+    pub by-most : frameOf (madeOf o) ≡ max (frameOf m) (mostHeld r)
     pub at-least : heldCount m ≤ mostHeld r
 
   -- for any run, from sound registers
   framed : {A : Type 0} {w : Walk A} {m : Made} {o : Outcome A} (r : Runs t root A w m o) → Sound (registersOf m) → Framed r
-  unfolding highest mostHeld left
+  unfolding highest mostHeld madeOf
   framed {m = m} (step (takes {s = s} {r = r} k)) h =
       record { sound = take-sound k h; by-highest = k .frame; by-most = framed-take m s r k h; at-least = omega arith }
   framed {m = m} (step (gives r k)) h =
@@ -95,7 +95,7 @@ module _ {t : Tree} {root : ℕ} where
         by-most = framed-still m (withRegisters (givenBack (registersOf m) r) m) h (give-sound g h) (g .frame);
         at-least = omega arith;
       }
-  framed {m = m} (step (leaves r)) h = record { sound = h; by-highest = omega arith; by-most = framed-still m m h h refl; at-least = omega arith }
+  framed {m = m} (step (keeps r)) h = record { sound = h; by-highest = omega arith; by-most = framed-still m m h h refl; at-least = omega arith }
   framed {m = m} (step (emits i f l k)) h = record { sound = h; by-highest = omega arith; by-most = framed-still m m h h refl; at-least = omega arith }
   framed {m = m} (step (finds c l e f)) h = record { sound = h; by-highest = omega arith; by-most = framed-still m m h h refl; at-least = omega arith }
   framed {m = m} (step (pools o f k)) h = record { sound = h; by-highest = omega arith; by-most = framed-still m m h h refl; at-least = omega arith }
@@ -118,7 +118,7 @@ module _ {t : Tree} {root : ℕ} where
   framed (counts a) h = let x = framed a h in record { sound = x .sound; by-highest = x .by-highest; by-most = x .by-most; at-least = x .at-least }
 
   ended : {A : Type 0} {w : Walk A} {m n : Made} {a : A} (r : Runs t root A w m (ends a n)) → Sound (registersOf m) → Sound (registersOf n)
-  unfolding left
+  unfolding madeOf
   ended r h = framed r h .sound
 
   module _ (G : Made → ℕ → Type 0) (T : Made → ℕ → RegisterSet → Type 0) (g : (m : Made) (r : ℕ) → Held m r → G m r)
@@ -126,7 +126,7 @@ module _ {t : Tree} {root : ℕ} where
     every : {A : Type 0} {w : Walk A} {m : Made} {o : Outcome A} (r : Runs t root A w m o) → Sound (registersOf m) → Every G T r
     every (step (takes {m = m} {s = s} {r = r} k)) h = u m r s h k
     every (step (gives {m = m} r k)) h = g m r k
-    every (step (leaves r)) h = tt
+    every (step (keeps r)) h = tt
     every (step (emits i f l k)) h = tt
     every (step (finds c l e f)) h = tt
     every (step (pools o f k)) h = tt
@@ -147,22 +147,22 @@ module _ {t : Tree} {root : ℕ} where
   registers-in-order r h = every (λ m r. Held m r) Smallest (λ m r k. k) (λ m r s z k. record { was-free = k .was-free; smaller-held = k .smaller-held; raises = raised k z }) r h
 
   -- Every held register is below the frame size.
-  pub registers-sound : {A : Type 0} {w : Walk A} {m : Made} {o : Outcome A} (r : Runs t root A w m o) → Sound (registersOf m) → Sound (registersOf (left o))
+  pub registers-sound : {A : Type 0} {w : Walk A} {m : Made} {o : Outcome A} (r : Runs t root A w m o) → Sound (registersOf m) → Sound (registersOf (madeOf o))
   registers-sound r h = framed r h .sound
 
   -- One more than the highest register taken, or the frame size before.
   pub frame-highest : {A : Type 0} {w : Walk A} {m : Made} {o : Outcome A} (r : Runs t root A w m o) → Sound (registersOf m) →
-      frameOf (left o) ≡ max (frameOf m) (highest r)
+      frameOf (madeOf o) ≡ max (frameOf m) (highest r)
   frame-highest r h = framed r h .by-highest
 
   -- The most registers held at one moment, or the frame size before.
   pub frame-most : {A : Type 0} {w : Walk A} {m : Made} {o : Outcome A} (r : Runs t root A w m o) → Sound (registersOf m) →
-      frameOf (left o) ≡ max (frameOf m) (mostHeld r)
+      frameOf (madeOf o) ≡ max (frameOf m) (mostHeld r)
   frame-most r h = framed r h .by-most
 
 module _ (nodes : List ℕ) (root mode : ℕ) (list names code constants marks : List ℕ) where
   abbrev from : Made
-  from = start nodes root mode list names code constants marks
+  from = nothingMade nodes root mode list names code constants marks
 
   -- the parameters take the registers below their number: as many are held, and that is the frame size
   start-frame : length (words names) ≤ 256 → (frameOf from ≡ length (words names)) × (heldCount from ≡ length (words names)) × Sound (registersOf from)
@@ -172,13 +172,13 @@ module _ (nodes : List ℕ) (root mode : ℕ) (list names code constants marks :
       let s : RegisterSet = parameters n in
       let frame : s .«frame_size» ≡ n = parameters-frame n few in
       let sound : Sound s = parameters-sound n in
-      let all : heldBelow s n ≡ n = held-least s n (λ r l. parameters-held n few r ∙ lt-ltb r n l) n (omega arith) in
-      let more : heldBelow s n ≤ heldBelow s 256 = held-grows s n 256 few in
-      let most : heldBelow s 256 ≤ s .«frame_size» = held-most s (s .«frame_size») (sound .below) 256 .0 in
+      let all : heldAmongFirst s n ≡ n = held-least s n (λ r l. parameters-held n few r ∙ lt-ltb r n l) n (omega arith) in
+      let more : heldAmongFirst s n ≤ heldAmongFirst s 256 = held-grows s n 256 few in
+      let most : heldAmongFirst s 256 ≤ s .«frame_size» = held-most s (s .«frame_size») (sound .below) 256 .0 in
       (frame, omega arith, sound)
 
   frames : {l : Lowered} → Came nodes root mode list names code constants marks l → l .result .number ≡ 0 → Frames nodes root mode list names code constants marks l
-  unfolding left
+  unfolding madeOf
   frames (before h) e = absurd (omega (arith, first-number h .0))
   frames (accepted {place = place} {m = m} y q r) e =
       let s = start-frame (few-names nodes root mode list names code constants marks y) in

@@ -19,9 +19,9 @@ use Rattle.lowering.specs.Questions.{Verdict, passed, refused, questions
 use Rattle.lowering.specs.Checked.{Checked, AllYes, FirstNo, no-size, no-root, no-node, no-parameters, NodeNo, no-kind, no-unused, no-number, no-list, no-order}
 use Rattle.lowering.specs.Walk.{Made, Outcome, ends, stops, Walk}
 use Rattle.lowering.specs.Steps.{freeTemp, freeHeld}
-use Rattle.lowering.specs.Result.{Lowered, result, leaves, begin, lowerRoot, answered, lowerChecked, lowerBy, lower}
-use Rattle.lowering.specs.Trace.{Runs, step, returns, follows, halts, reads, counts, takes, gives, leaves as stays, emits, finds, pools, patches, marks as marking, moves, refuses, Own, undeclared, registers, no-else, no-value, code, constants, unmarked, marks, no-destination, sum, registersOf, instructionsOf, constantsOf, Marked}
-use Rattle.lowering.specs.Answers.{start}
+use Rattle.lowering.specs.Result.{Lowered, result, lowered, begin, lowerRoot, loweredOf, lowerChecked, lowerBy, lower}
+use Rattle.lowering.specs.Trace.{Runs, step, returns, follows, halts, reads, counts, takes, gives, keeps as stays, emits, finds, pools, patches, marks as marking, moves, refuses, Own, undeclared, registers, no-else, no-value, code, constants, unmarked, marks, no-destination, sum, registersOf, instructionsOf, constantsOf, Marked}
+use Rattle.lowering.specs.Answers.{nothingMade}
 use Rattle.lowering.proofs.Questions.Checked.{questions-passed, questions-refused}
 use Rattle.lowering.proofs.Walk.RootRuns.{root-runs, root-same}
 
@@ -88,42 +88,42 @@ module _ (nodes : List ℕ) (root mode : ℕ) (list names code constants marks :
   -- What comes back, and how it came to that.
   pub data Came : Lowered → Type 1 where
     -- a question before the walk is the first one answered no: nothing is done
-    before : {r : Refusal} {place : ℕ} → FirstNo nodes list names mode root r place → Came (leaves (result (refusalNumber r) place 0 0 0 0 0 0) (start nodes root mode list names code constants marks))
+    before : {r : Refusal} {place : ℕ} → FirstNo nodes list names mode root r place → Came (lowered (result (refusalNumber r) place 0 0 0 0 0 0) (nothingMade nodes root mode list names code constants marks))
     -- every question is answered yes, and the walk ends: no question of it was answered no
-    accepted : {place : ℕ} {m : Made} → AllYes nodes list names mode root → lowerRoot freeTemp tree mode root (start nodes root mode list names code constants marks) ≡ ends place m →
-        Runs tree root ℕ (lowerRoot freeTemp tree mode root) (start nodes root mode list names code constants marks) (ends place m) →
-        Came (leaves (result 0 place 0 0 (instructionsOf m) (constantsOf m) (registersOf m .«frame_size») (length (words names))) m)
+    accepted : {place : ℕ} {m : Made} → AllYes nodes list names mode root → lowerRoot freeTemp tree mode root (nothingMade nodes root mode list names code constants marks) ≡ ends place m →
+        Runs tree root ℕ (lowerRoot freeTemp tree mode root) (nothingMade nodes root mode list names code constants marks) (ends place m) →
+        Came (lowered (result 0 place 0 0 (instructionsOf m) (constantsOf m) (registersOf m .«frame_size») (length (words names))) m)
     -- every question is answered yes, and the walk stops: the refusal's own condition holds of what was made there
-    stopped : {e : Error} {m : Made} → AllYes nodes list names mode root → lowerRoot freeTemp tree mode root (start nodes root mode list names code constants marks) ≡ stops e m →
-        Runs tree root ℕ (lowerRoot freeTemp tree mode root) (start nodes root mode list names code constants marks) (stops e m) → Own tree root e m →
-        Came (leaves (result (refusalNumber (e .refusal)) (e .place) (e .start) (e .end) (instructionsOf m) (constantsOf m) 0 0) m)
+    stopped : {e : Error} {m : Made} → AllYes nodes list names mode root → lowerRoot freeTemp tree mode root (nothingMade nodes root mode list names code constants marks) ≡ stops e m →
+        Runs tree root ℕ (lowerRoot freeTemp tree mode root) (nothingMade nodes root mode list names code constants marks) (stops e m) → Own tree root e m →
+        Came (lowered (result (refusalNumber (e .refusal)) (e .place) (e .start) (e .end) (instructionsOf m) (constantsOf m) 0 0) m)
 
   pub few-names : AllYes nodes list names mode root → length (words names) ≤ 256
   unfolding question8
   few-names y = leb-true _ _ (y .parameters)
 
-  start-sound : Sound (registersOf (start nodes root mode list names code constants marks))
+  start-sound : Sound (registersOf (nothingMade nodes root mode list names code constants marks))
   unfolding begin
   start-sound = parameters-sound (length (words names))
 
-  start-marked : Marked (start nodes root mode list names code constants marks)
+  start-marked : Marked (nothingMade nodes root mode list names code constants marks)
   unfolding begin
   start-marked k h = absurd (omega arith)
 
   -- Own condition: every answer of lowering is one of these.
   pub lower-came : Came (lower nodes root mode list names code constants marks)
-  unfolding lower lowerChecked answered
+  unfolding lower lowerChecked loweredOf
   lower-came = go (questions nodes list names mode root) refl
     where
-      walked : AllYes nodes list names mode root → (o : Outcome ℕ) → lowerRoot freeTemp tree mode root (start nodes root mode list names code constants marks) ≡ o → Runs tree root ℕ (lowerRoot freeTemp tree mode root) (start nodes root mode list names code constants marks) o →
-          Came (answered (length (words names)) o)
+      walked : AllYes nodes list names mode root → (o : Outcome ℕ) → lowerRoot freeTemp tree mode root (nothingMade nodes root mode list names code constants marks) ≡ o → Runs tree root ℕ (lowerRoot freeTemp tree mode root) (nothingMade nodes root mode list names code constants marks) o →
+          Came (loweredOf (length (words names)) o)
       walked y (ends place m) e r = accepted y e r
       walked y (stops f m) e r = stopped y e r (own-of r)
 
-      go : (v : Verdict) → questions nodes list names mode root ≡ v → Came (lowerChecked freeTemp v tree mode root (start nodes root mode list names code constants marks))
+      go : (v : Verdict) → questions nodes list names mode root ≡ v → Came (lowerChecked freeTemp v tree mode root (nothingMade nodes root mode list names code constants marks))
       go passed e =
           let y : AllYes nodes list names mode root = questions-passed nodes list names mode root .0 e in
-          walked y (lowerRoot freeTemp tree mode root (start nodes root mode list names code constants marks)) refl (root-runs tree root (y .checked) (few-names y) mode (start nodes root mode list names code constants marks) start-sound start-marked)
+          walked y (lowerRoot freeTemp tree mode root (nothingMade nodes root mode list names code constants marks)) refl (root-runs tree root (y .checked) (few-names y) mode (nothingMade nodes root mode list names code constants marks) start-sound start-marked)
       go (refused r place) e = before (questions-refused nodes list names mode root r place .0 e)
 
   -- No register is given back twice: for every input, refused or not, the lowering whose give-back stops where the register is not held is the lowering.
@@ -131,8 +131,8 @@ module _ (nodes : List ℕ) (root mode : ℕ) (list names code constants marks :
   unfolding lower lowerChecked
   given-back-once = go (questions nodes list names mode root) refl
     where
-      go : (v : Verdict) → questions nodes list names mode root ≡ v → lowerChecked freeHeld v tree mode root (start nodes root mode list names code constants marks) ≡ lowerChecked freeTemp v tree mode root (start nodes root mode list names code constants marks)
+      go : (v : Verdict) → questions nodes list names mode root ≡ v → lowerChecked freeHeld v tree mode root (nothingMade nodes root mode list names code constants marks) ≡ lowerChecked freeTemp v tree mode root (nothingMade nodes root mode list names code constants marks)
       go passed e =
           let y : AllYes nodes list names mode root = questions-passed nodes list names mode root .0 e in
-          ap (answered (length (words names))) (root-same tree root (y .checked) (few-names y) mode (start nodes root mode list names code constants marks) start-sound start-marked)
+          ap (loweredOf (length (words names))) (root-same tree root (y .checked) (few-names y) mode (nothingMade nodes root mode list names code constants marks) start-sound start-marked)
       go (refused r place) e = refl

@@ -26,14 +26,14 @@ use Rattle.lowering.specs.declared.Dest.{Dest}
 use Rattle.lowering.specs.Tree.{Tree, node, children}
 use Rattle.lowering.specs.Questions.{question7}
 use Rattle.lowering.specs.Checked.{Checked}
-use Rattle.lowering.specs.Walk.{Made, Outcome, ends, stops, Walk, bind, _>>=_, _>>_, ret, error, left}
+use Rattle.lowering.specs.Walk.{Made, Outcome, ends, stops, Walk, bind, _>>=_, _>>_, ret, error, madeOf}
 use Rattle.lowering.specs.Steps.{placed, registered, withRegisters, withCode, withConstants, withMarks, allocateTemp, destination, freeTemp, emit, store, loadConstant, patchToNext, mark, patchArgument, patchMarks, patchArguments}
 use Rattle.lowering.specs.Operators.{comparison}
-use Rattle.lowering.specs.Lower.{Source, register, constant, source, sameRegister, materialized, lowerMaterializing, moved, named, binarySources, lowerArguments, storeNamed, storeKeyed, lowerEntry, lowerEntries, lowerElse, lowerTail, lowerNode, tested, fusedSources, fused, jumpNode, expressionBelow, jumpBelow, lowerExpression, lowerJumpIfFalse, lowerJumpIfTrue}
+use Rattle.lowering.specs.Lower.{Source, register, constant, source, sameRegister, materialized, lowerMaterializing, moved, lowerName, binarySources, lowerArguments, storeNamed, storeKeyed, lowerEntry, lowerEntries, lowerElse, lowerTail, lowerNode, test, fusedSources, fuse, jumpNode, expressionBelow, jumpBelow, lowerExpression, lowerJumpIfFalse, lowerJumpIfTrue}
 use Rattle.lowering.specs.Result.{lowerRoot}
 use Rattle.lowering.specs.Meaning.{Named, first, later}
 use Rattle.lowering.specs.Trace.{instructionsOf, marksOf}
-use Rattle.lowering.proofs.Questions.Checked.{Fits, checked-fits, checked-at}
+use Rattle.lowering.proofs.Questions.Checked.{InRange, checked-fits, checked-at}
 use Rattle.lowering.proofs.Walk.StepLaws.{below-named}
 
 -- what an append leaves, by its answer
@@ -176,8 +176,8 @@ module _ (t : Tree) (b : ℕ) where
   steady-moved r Dest.Any = steady-ret _
   steady-moved r (Dest.To d) = steady-cond (sameRegister d r) (steady-ret _) (steady-chain (steady-emit b _) (λ p. steady-ret _))
 
-  steady-named : (i : ℕ) (f : Found) (dest : Dest) → Steady b (named t i f dest)
-  unfolding named
+  steady-named : (i : ℕ) (f : Found) (dest : Dest) → Steady b (lowerName t i f dest)
+  unfolding lowerName
   steady-named i (Found.At r) dest = steady-moved r dest
   steady-named i (Found.Refused refusal) dest = steady-stop _
 
@@ -244,7 +244,7 @@ module _ (t : Tree) (b : ℕ) where
           (λ src. pace-chain 255 0 b (omega arith) (omega arith) (omega arith) (paid-emit b _)
           (λ p. steady-chain (steady-free b src) (λ v. steady-ret (Operand.Register d))))))
 
-      steady-node : (i : ℕ) (n : Node) (dest : Dest) → Fits (length (t .list)) n → Steady (b + 255) (lowerNode freeTemp t E J i n dest)
+      steady-node : (i : ℕ) (n : Node) (dest : Dest) → InRange (length (t .list)) n → Steady (b + 255) (lowerNode freeTemp t E J i n dest)
       unfolding lowerNode lowerElse lowerTail
       steady-node i (Node.Number low high) dest f = steady-ret _
       steady-node i (Node.String symbol) dest f = steady-ret _
@@ -281,8 +281,8 @@ module _ (t : Tree) (b : ℕ) where
 -- a condition, by walks on the children that keep the pace where they hold P
 module _ (t : Tree) (b : ℕ) (E : ℕ → Dest → Walk Operand) (P : ℕ → Type 0) (steady : (i : ℕ) → P i → (dest : Dest) → Steady b (E i dest))
     (sense : Bool) (own : Dest → Walk Operand) (owns : (dest : Dest) → Steady b (own dest)) where
-  steady-tested : Steady b (tested t E sense own)
-  unfolding tested
+  steady-tested : Steady b (test t E sense own)
+  unfolding test
   steady-tested = steady-chain (steady-materializing b own Dest.Any (owns Dest.Any)) (λ src. steady-emit b _)
 
   steady-fusedSources : (c : Comparison) (x y : Source) → Steady b (fusedSources t E sense own c x y)
@@ -292,8 +292,8 @@ module _ (t : Tree) (b : ℕ) (E : ℕ → Dest → Walk Operand) (P : ℕ → T
   steady-fusedSources c (constant x) (register y) = steady-chain (steady-store b x) (λ k. steady-emit b _)
   steady-fusedSources c (constant x) (constant y) = steady-tested
 
-  steady-fused : (c : Option Comparison) (left right : ℕ) → P left → P right → Steady b (fused t E sense own c left right)
-  unfolding fused
+  steady-fused : (c : Option Comparison) (left right : ℕ) → P left → P right → Steady b (fuse t E sense own c left right)
+  unfolding fuse
   steady-fused none left right p q = steady-tested
   steady-fused (some c) left right p q =
       steady-chain (steady left p Dest.Any) (λ x. steady-chain (steady right q Dest.Any) (λ y. steady-fusedSources c (source x) (source y)))
@@ -369,10 +369,10 @@ module _ (t : Tree) (checked : Checked t) where
       (λ j. steady-chain (steady-arguments (255 * suc root)) (λ u. steady-ret j))
 
   -- At most 255 marks for each instruction and for each node up to the root, whatever lowering comes to.
-  pub marks-few : (mode root : ℕ) (m : Made) → marksOf (left (lowerRoot freeTemp t mode root m)) ≤ marksOf m + 255 * instructionsOf (left (lowerRoot freeTemp t mode root m)) + 255 * (root + 1)
-  unfolding left
+  pub marks-few : (mode root : ℕ) (m : Made) → marksOf (madeOf (lowerRoot freeTemp t mode root m)) ≤ marksOf m + 255 * instructionsOf (madeOf (lowerRoot freeTemp t mode root m)) + 255 * (root + 1)
+  unfolding madeOf
   marks-few mode root m = go (lowerRoot freeTemp t mode root m) (root-pace mode root .at m)
     where
-      go : (o : Outcome ℕ) → PaceOf 0 0 (255 * suc root) m o → marksOf (left o) ≤ marksOf m + 255 * instructionsOf (left o) + 255 * (root + 1)
+      go : (o : Outcome ℕ) → PaceOf 0 0 (255 * suc root) m o → marksOf (madeOf o) ≤ marksOf m + 255 * instructionsOf (madeOf o) + 255 * (root + 1)
       go (ends a n) h = omega arith
       go (stops e n) h = omega arith

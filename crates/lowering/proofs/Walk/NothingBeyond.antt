@@ -15,9 +15,9 @@ use Rattle.runtime.specs.Instruction.{instructionWidth, wordsOf, offsetWord}
 use Rattle.runtime.specs.Value.{constantWidth, constantWords}
 use Rattle.runtime.specs.Function.{maxInstructions}
 use Rattle.lowering.specs.Tree.{Tree}
-use Rattle.lowering.specs.Walk.{Made, Outcome, Walk, left}
-use Rattle.lowering.specs.Steps.{withRegisters, withCode, withOffset}
-use Rattle.lowering.specs.Trace.{Runs, Step, takes, gives, leaves, emits, finds, pools, patches, marks, moves, refuses, instructionsOf, constantsOf, marksOf, kindAt, firstField, registersOf, Marked}
+use Rattle.lowering.specs.Walk.{Made, Outcome, Walk, madeOf}
+use Rattle.lowering.specs.Steps.{withRegisters, withCode, putOffset}
+use Rattle.lowering.specs.Trace.{Runs, Step, takes, gives, keeps, emits, finds, pools, patches, marks, moves, refuses, instructionsOf, constantsOf, marksOf, kindAt, firstField, registersOf, Marked}
 use Rattle.runtime.proofs.Encoding.{length-words-of}
 use Rattle.lowering.proofs.Running.Decode.{constant-length, offset-small}
 use Rattle.lowering.proofs.Walk.StepLaws.{along}
@@ -150,11 +150,11 @@ mark-same ws p v h =
     subst (λ i. getD (putRecord 1 ws p (v ∷ [])) i 0 ≡ v) place (put-same 1 ws p (v ∷ []) refl 0 (omega arith) h)
 
 module _ {t : Tree} {root : ℕ} where
-  pub grows-each : {A : Type 0} {w : Walk A} {m : Made} {o : Outcome A} → Step t root A w m o → Grows m (left o)
-  unfolding left withOffset
+  pub grows-each : {A : Type 0} {w : Walk A} {m : Made} {o : Outcome A} → Step t root A w m o → Grows m (madeOf o)
+  unfolding madeOf putOffset
   grows-each {m = m} (takes {s = s} k) = grows-registers m s
   grows-each {m = m} (gives r k) = grows-registers m _
-  grows-each {m = m} (leaves r) = grows-refl m
+  grows-each {m = m} (keeps r) = grows-refl m
   grows-each {m = m} (emits i fits l h) =
       grows-code m _ (instructionsOf m + 1) (omega arith) (λ x. omega arith) (grown-put instructionWidth (m .code) (instructionsOf m) (wordsOf i) (length-words-of i) h)
   grows-each {m = m} (finds c l e f) = grows-refl m
@@ -198,5 +198,5 @@ module _ {t : Tree} {root : ℕ} where
   grows-each {m = m} (refuses q o) = grows-refl m
 
   -- of any run
-  pub runs-grow : {A : Type 0} {w : Walk A} {m : Made} {o : Outcome A} → Runs t root A w m o → Grows m (left o)
+  pub runs-grow : {A : Type 0} {w : Walk A} {m : Made} {o : Outcome A} → Runs t root A w m o → Grows m (madeOf o)
   runs-grow r = along Grows grows-refl grows-trans (λ A w m o s. grows-each s) r

@@ -17,10 +17,10 @@ use Rattle.runtime.specs.declared.instruction.Instruction.{Instruction}
 use Rattle.runtime.specs.Instruction.{instructionWidth, wordsOf, hasDestination, offsetWord}
 use Rattle.runtime.specs.Function.{maxInstructions}
 use Rattle.lowering.specs.Tree.{Tree}
-use Rattle.lowering.specs.Walk.{Made, Outcome, Walk, left}
-use Rattle.lowering.specs.Steps.{withOffset}
-use Rattle.lowering.specs.Fields.{Field, reg, index, arguments, offset, unused, limit, fields, fieldOf, Narrow, wordsAt}
-use Rattle.lowering.specs.Trace.{Runs, Step, takes, gives, leaves, emits, finds, pools, patches, marks, moves, refuses, JumpKind, instructionsOf, constantsOf, registersOf}
+use Rattle.lowering.specs.Walk.{Made, Outcome, Walk, madeOf}
+use Rattle.lowering.specs.Steps.{putOffset}
+use Rattle.lowering.specs.Fields.{Field, reg, index, arguments, offset, unused, limit, fields, fieldAt, Narrow, wordsAt}
+use Rattle.lowering.specs.Trace.{Runs, Step, takes, gives, keeps, emits, finds, pools, patches, marks, moves, refuses, JumpKind, instructionsOf, constantsOf, registersOf}
 use Rattle.lowering.specs.Pool.{AllNarrow}
 use Rattle.runtime.proofs.Encoding.{length-words-of}
 use Rattle.lowering.proofs.Running.Decode.{offset-small}
@@ -42,9 +42,9 @@ limit-more h unused = le-refl _
 
 pub narrow-more : {a b : ℕ} (ws : List ℕ) → a ≤ b → Narrow a ws → Narrow b ws
 narrow-more ws h n = (
-  lt-of-lt-of-le (n .0) (limit-more h (fieldOf (getD ws 0 0) 0)),
-  lt-of-lt-of-le (n .1) (limit-more h (fieldOf (getD ws 0 0) 1)),
-  lt-of-lt-of-le (n .2) (limit-more h (fieldOf (getD ws 0 0) 2)),
+  lt-of-lt-of-le (n .0) (limit-more h (fieldAt (getD ws 0 0) 0)),
+  lt-of-lt-of-le (n .1) (limit-more h (fieldAt (getD ws 0 0) 1)),
+  lt-of-lt-of-le (n .2) (limit-more h (fieldAt (getD ws 0 0) 2)),
 )
 
 -- ---- a jump's offset
@@ -86,7 +86,7 @@ starts-at (x ∷ l) (suc n) s (suc k) h = starts-at l n (s .1) k (omega arith)
 all-start : Starts fields 41
 all-start = (refl, (refl, (refl, (refl, (refl, (refl, (refl, (refl, (refl, (refl, (refl, (refl, (refl, (refl, (refl, (refl, (refl, (refl, (refl, (refl, (refl, (refl, (refl, (refl, (refl, (refl, (refl, (refl, (refl, (refl, (refl, (refl, (refl, (refl, (refl, (refl, (refl, (refl, (refl, (refl, (refl, tt)))))))))))))))))))))))))))))))))))))))))
 
-destination-first : (kind : ℕ) → hasDestination kind ≡ true → fieldOf kind 0 ≡ reg
+destination-first : (kind : ℕ) → hasDestination kind ≡ true → fieldAt kind 0 ≡ reg
 unfolding hasDestination
 destination-first kind h = starts-at fields 41 all-start kind (small (ltb kind 28) refl (ltb kind 32) (ltb kind 33) refl (ltb kind 35) (ltb kind 37) refl (ltb kind 38) h)
   where
@@ -158,11 +158,11 @@ uncut-trans m n o a b = record {
 }
 
 module _ {t : Tree} {root : ℕ} where
-  narrow-each : {A : Type 0} {w : Walk A} {m : Made} {o : Outcome A} → Step t root A w m o → Room m → AllNarrow m → AllNarrow (left o)
-  unfolding left withOffset
+  narrow-each : {A : Type 0} {w : Walk A} {m : Made} {o : Outcome A} → Step t root A w m o → Room m → AllNarrow m → AllNarrow (madeOf o)
+  unfolding madeOf putOffset
   narrow-each (takes k) r a = a
   narrow-each (gives x k) r a = a
-  narrow-each (leaves x) r a = a
+  narrow-each (keeps x) r a = a
   narrow-each {m = m} (emits i f l h) r a = λ p z. go p z (ℕ-discrete p (instructionsOf m))
     where
       go : (p : ℕ) → p < instructionsOf m + 1 → Dec (p ≡ instructionsOf m) →
@@ -194,7 +194,7 @@ module _ {t : Tree} {root : ℕ} where
       inside : instructionWidth * place + instructionWidth ≤ length (m .code)
       inside = room instructionWidth (m .code) place (omega (arith, r .0))
 
-      first : sum < limit (constantsOf m) (fieldOf (getD (m .code) (instructionWidth * place) 0) 0)
+      first : sum < limit (constantsOf m) (fieldAt (getD (m .code) (instructionWidth * place) 0) 0)
       first = rw (destination-first (getD (m .code) (instructionWidth * place) 0) k) (omega arith)
 
       go : (p : ℕ) → p < instructionsOf m → Dec (p ≡ place) → Narrow (constantsOf m) (wordsAt (set (m .code) (instructionWidth * place + 1) sum) p)
@@ -204,5 +204,5 @@ module _ {t : Tree} {root : ℕ} where
   narrow-each (refuses q o) r a = a
 
   -- of any run
-  pub runs-uncut : {A : Type 0} {w : Walk A} {m : Made} {o : Outcome A} → Runs t root A w m o → Uncut m (left o)
+  pub runs-uncut : {A : Type 0} {w : Walk A} {m : Made} {o : Outcome A} → Runs t root A w m o → Uncut m (madeOf o)
   runs-uncut r = along Uncut uncut-refl uncut-trans (λ A w m o s. record { grows = grows-each s; narrow = narrow-each s }) r

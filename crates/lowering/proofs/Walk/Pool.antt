@@ -21,21 +21,21 @@ use Rattle.runtime.specs.Value.{constantWidth, constantWords}
 use Rattle.runtime.specs.Function.{storeConstant}
 use Rattle.runtime.proofs.Pool.{store-at}
 use Rattle.lowering.specs.Tree.{Tree, node}
-use Rattle.lowering.specs.Walk.{Made, Outcome, ends, Walk, left}
+use Rattle.lowering.specs.Walk.{Made, Outcome, ends, Walk, madeOf}
 use Rattle.lowering.specs.Steps.{placed, withConstants, store}
 use Rattle.lowering.specs.Meaning.{Named, first, later, Reaches}
-use Rattle.lowering.specs.Trace.{Runs, Step, takes, gives, leaves, emits, finds, pools, patches, marks, moves, refuses, constantOfNode, constantsOf}
-use Rattle.lowering.specs.Pool.{constantAt}
+use Rattle.lowering.specs.Trace.{Runs, Step, takes, gives, keeps, emits, finds, pools, patches, marks, moves, refuses, constantOfNode, constantsOf}
+use Rattle.lowering.specs.Pool.{constantWordsAt}
 use Rattle.lowering.proofs.Running.Decode.{constant-length}
 use Rattle.lowering.proofs.Walk.StepLaws.{along}
 
 -- no two constants are the same
 abbrev pub Distinct : Made → Type 0
-Distinct m = (q p : ℕ) → q < p → p < constantsOf m → constantAt m q ≢ constantAt m p
+Distinct m = (q p : ℕ) → q < p → p < constantsOf m → constantWordsAt m q ≢ constantWordsAt m p
 
 -- A constant's index is the first place with its words.
 pub constant-first : (c : Operand) (m n : Made) (p : ℕ) → store c m ≡ ends p n →
-    (p < constantsOf n) × (constantAt n p ≡ constantWords c) × ((q : ℕ) → q < p → q < capacity constantWidth (n .constants) → constantAt n q ≢ constantWords c)
+    (p < constantsOf n) × (constantWordsAt n p ≡ constantWords c) × ((q : ℕ) → q < p → q < capacity constantWidth (n .constants) → constantWordsAt n q ≢ constantWords c)
 unfolding store placed
 constant-first c m n p e = go (after .answer .place) refl e
   where
@@ -43,12 +43,12 @@ constant-first c m n p e = go (after .answer .place) refl e
     after = storeConstant (m .constants) (constantsOf m) c
 
     go : (place : Place) → after .answer .place ≡ place → placed place (withConstants (after .words) (after .answer .count) m) ≡ ends p n →
-        (p < constantsOf n) × (constantAt n p ≡ constantWords c) × ((q : ℕ) → q < p → q < capacity constantWidth (n .constants) → constantAt n q ≢ constantWords c)
+        (p < constantsOf n) × (constantWordsAt n p ≡ constantWords c) × ((q : ℕ) → q < p → q < capacity constantWidth (n .constants) → constantWordsAt n q ≢ constantWords c)
     go (Place.At k) q z =
         let same : k ≡ p = cc in
         let there : withConstants (after .words) (after .answer .count) m ≡ n = cc in
         let s = store-at (m .constants) (constantsOf m) c k q in
-        subst (λ x. (p < constantsOf x) × (constantAt x p ≡ constantWords c) × ((q : ℕ) → q < p → q < capacity constantWidth (x .constants) → constantAt x q ≢ constantWords c)) there
+        subst (λ x. (p < constantsOf x) × (constantWordsAt x p ≡ constantWords c) × ((q : ℕ) → q < p → q < capacity constantWidth (x .constants) → constantWordsAt x q ≢ constantWords c)) there
         (subst (λ j. (j < after .answer .count) × (recordAt constantWidth (after .words) j ≡ constantWords c) × ((q : ℕ) → q < j → q < capacity constantWidth (after .words) → recordAt constantWidth (after .words) q ≢ constantWords c)) same
         (s .counted, s .holds, s .first))
     go (Place.Refused r) q z = let w : _≡_ {A = ℕ} 0 1 = cc in absurd (omega arith)
@@ -70,11 +70,11 @@ module _ (t : Tree) (root : ℕ) where
     -- only grows
     pub more : constantsOf m ≤ constantsOf n
     -- every constant that was there is as it was
-    pub kept : (p : ℕ) → p < constantsOf m → constantAt n p ≡ constantAt m p
+    pub kept : (p : ℕ) → p < constantsOf m → constantWordsAt n p ≡ constantWordsAt m p
     -- each one that is new is that of a node that the root reaches
-    pub owned : (p : ℕ) → constantsOf m ≤ p → p < constantsOf n → From (constantAt n p)
+    pub owned : (p : ℕ) → constantsOf m ≤ p → p < constantsOf n → From (constantWordsAt n p)
     -- and no earlier one has its words
-    pub new : (q p : ℕ) → q < p → constantsOf m ≤ p → p < constantsOf n → constantAt n q ≢ constantAt n p
+    pub new : (q p : ℕ) → q < p → constantsOf m ≤ p → p < constantsOf n → constantWordsAt n q ≢ constantWordsAt n p
 
   pooled-refl : (m : Made) → Pooled m m
   pooled-refl m = record { more = le-refl _; kept = λ p h. refl; owned = λ p a b. absurd (omega arith); new = λ q p l a b. absurd (omega arith) }
@@ -87,11 +87,11 @@ module _ (t : Tree) (root : ℕ) where
     new = λ q p l x y. new q p l x y (decLt p (constantsOf n));
   }
     where
-      owned : (p : ℕ) → constantsOf m ≤ p → p < constantsOf o → Dec (p < constantsOf n) → From (constantAt o p)
+      owned : (p : ℕ) → constantsOf m ≤ p → p < constantsOf o → Dec (p < constantsOf n) → From (constantWordsAt o p)
       owned p x y (yes l) = subst (λ ws. From ws) (sym (b .kept p l)) (a .owned p x l)
       owned p x y (no l) = b .owned p (omega arith) y
 
-      new : (q p : ℕ) → q < p → constantsOf m ≤ p → p < constantsOf o → Dec (p < constantsOf n) → constantAt o q ≢ constantAt o p
+      new : (q p : ℕ) → q < p → constantsOf m ≤ p → p < constantsOf o → Dec (p < constantsOf n) → constantWordsAt o q ≢ constantWordsAt o p
       new q p l x y (yes h) = λ e. a .new q p l x h (sym (b .kept q (omega arith)) ∙ e ∙ b .kept p h)
       new q p l x y (no h) = b .new q p l (omega arith) y
 
@@ -103,8 +103,8 @@ module _ (t : Tree) (root : ℕ) where
     new = λ q p l a b. absurd (omega arith);
   }
 
-  pooled-each : {A : Type 0} {w : Walk A} {m : Made} {o : Outcome A} → Step t root A w m o → Pooled m (left o)
-  unfolding left
+  pooled-each : {A : Type 0} {w : Walk A} {m : Made} {o : Outcome A} → Step t root A w m o → Pooled m (madeOf o)
+  unfolding madeOf
   pooled-each {m = m} (pools {c = c} own f h) = record {
     more = omega arith;
     kept = λ p l. record-other constantWidth (m .constants) (constantsOf m) (constantWords c) p (constant-length c) (ne-of-lt l);
@@ -120,7 +120,7 @@ module _ (t : Tree) (root : ℕ) where
       there = record-same constantWidth (m .constants) (constantsOf m) (constantWords c) (constant-length c) h
   pooled-each {m = m} (takes k) = same-pool m refl refl
   pooled-each {m = m} (gives r h) = same-pool m refl refl
-  pooled-each {m = m} (leaves r) = same-pool m refl refl
+  pooled-each {m = m} (keeps r) = same-pool m refl refl
   pooled-each {m = m} (emits i f l h) = same-pool m refl refl
   pooled-each {m = m} (finds c l e f) = same-pool m refl refl
   pooled-each {m = m} (patches j l k) = same-pool m refl refl
@@ -129,14 +129,14 @@ module _ (t : Tree) (root : ℕ) where
   pooled-each {m = m} (refuses q o) = same-pool m refl refl
 
   -- of any run
-  pub runs-pool : {A : Type 0} {w : Walk A} {m : Made} {o : Outcome A} → Runs t root A w m o → Pooled m (left o)
+  pub runs-pool : {A : Type 0} {w : Walk A} {m : Made} {o : Outcome A} → Runs t root A w m o → Pooled m (madeOf o)
   runs-pool r = along Pooled pooled-refl pooled-trans (λ A w m o s. pooled-each s) r
 
   -- no two are the same, if none were before
   pub distinct-kept : {m n : Made} → Pooled m n → Distinct m → Distinct n
   distinct-kept {m} {n} g d q p l h = go (decLt p (constantsOf m))
     where
-      go : Dec (p < constantsOf m) → constantAt n q ≢ constantAt n p
+      go : Dec (p < constantsOf m) → constantWordsAt n q ≢ constantWordsAt n p
       go (yes b) = λ e. d q p l b (sym (g .kept q (omega arith)) ∙ e ∙ g .kept p b)
       go (no b) = g .new q p l (omega arith) h
 

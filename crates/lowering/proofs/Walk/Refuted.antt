@@ -25,50 +25,50 @@ use Rattle.runtime.specs.Function.{emitInstruction, storeConstant}
 use Rattle.runtime.specs.Instruction.{wordsOf, hasDestination, offsetWord, decode}
 use Rattle.runtime.specs.Operands.{regOf}
 use Rattle.runtime.specs.Value.{numberOf, constantWords}
-use Rattle.lowering.specs.Lower.{source, sameRegister, nameOf, materialized, lowerMaterializing, moved, named, binarySources, lowerArguments, storeNamed, storeKeyed, lowerEntry, lowerEntries, lowerElse, lowerTail, lowerNode, tested, fusedSources, fused, jumpNode, lowerExpression, lowerJumpIfFalse, lowerJumpIfTrue, expressionBelow, jumpBelow}
+use Rattle.lowering.specs.Lower.{source, sameRegister, nameOf, materialized, lowerMaterializing, moved, lowerName, binarySources, lowerArguments, storeNamed, storeKeyed, lowerEntry, lowerEntries, lowerElse, lowerTail, lowerNode, test, fusedSources, fuse, jumpNode, lowerExpression, lowerJumpIfFalse, lowerJumpIfTrue, expressionBelow, jumpBelow}
 use Rattle.lowering.specs.Operators.{binaryRR, binaryRK, binaryKR, unary, comparison, jumpRR, jumpRK, jumpKR, jumpIf}
 use Rattle.lowering.specs.Questions.{whole, question1, question2, question3, question4, question5, question6, allBelow, question7, question8, askNode, askNodes, questions}
-use Rattle.lowering.specs.Steps.{withRegisters, freeHeld, placed, registered, allocateTemp, freeTemp, destination, emit, store, loadConstant, withOffset, patchToNext, mark, patchArgument, patchMarks, patchArguments}
+use Rattle.lowering.specs.Steps.{withRegisters, freeHeld, placed, registered, allocateTemp, freeTemp, destination, emit, store, loadConstant, putOffset, patchToNext, mark, patchArgument, patchMarks, patchArguments}
 use Rattle.lowering.specs.Tree.{treeOf, node, present, entryNodes, children}
-use Rattle.lowering.specs.Walk.{Made, made, Outcome, ends, stops, Walk, bind, _>>_, unnamed, left}
-use Rattle.lowering.specs.Result.{Lowered, leaves, begin, lowerRoot, answered, lowerChecked, lower}
+use Rattle.lowering.specs.Walk.{Made, made, Outcome, ends, stops, Walk, bind, _>>_, unnamed, madeOf}
+use Rattle.lowering.specs.Result.{Lowered, lowered, begin, lowerRoot, loweredOf, lowerChecked, lower}
 use Rattle.lowering.specs.Frame.{Smallest}
 use Rattle.lowering.specs.Smallest.{beforeRegister, SmallestFirst}
-use Rattle.lowering.specs.Meaning.{Worth, worth, fails, undefined, Named, first, later, Reaches, here, below}
-use Rattle.lowering.specs.Machine.{recordIn, fetch, constantAt, constantOf, target, action, act, stepAt, step, after}
+use Rattle.lowering.specs.Meaning.{Evaluation, evaluates, fails, undefined, Named, first, later, Reaches, here, below}
+use Rattle.lowering.specs.Machine.{recordIn, fetch, constantAt, constantOf, target, action, act, stepAt, machineStep, after}
 use Rattle.lowering.specs.Law.{Start, LawOf}
 use Rattle.lowering.specs.Trace.{registersOf, Held, constantOfNode, Owned}
-use Rattle.lowering.specs.Answers.{start}
-use Rattle.lowering.specs.Instance.{Datum, number, string, boolean, nil, Mismatch, compared, numbers, alike, truthful}
-use Rattle.lowering.specs.Examples.{pageNodes, pageTree, one, two, pageCode, pageConstants, pageWith, EndedOf, WithinOf, FramesOf, FitOf, noElse, noElseCode, noElseWith, StoppedOf, literal, takesOne, sumOfNames}
-use Rattle.lowering.proofs.Running.Instance.{page-start, page-worth}
+use Rattle.lowering.specs.Answers.{nothingMade}
+use Rattle.lowering.specs.Instance.{Datum, number, string, boolean, nil, Mismatch, ieeeCompare, onNumbers, alike, ieeeTest}
+use Rattle.lowering.specs.Examples.{pageNodes, pageTree, one, two, pageCode, pageConstants, pageWith, EndedOf, WithinOf, FramesOf, FitOf, noElse, noElseCode, noElseWith, StoppedOf, noWords, takesOne, sumOfNames}
+use Rattle.lowering.proofs.Running.Instance.{page-start, page-value}
 
 -- ---- the worked page
 
 abbrev pub fromPage : Made
-fromPage = start (bytesOf pageNodes) 5 0 [] (bytesOf (7 ∷ [])) (replicate 32 9) (replicate 12 9) (replicate 2 9)
+fromPage = nothingMade (bytesOf pageNodes) 5 0 [] (bytesOf (7 ∷ [])) (replicate 32 9) (replicate 12 9) (replicate 2 9)
 
 -- the walk of it
 abbrev pub walked : Outcome ℕ
 walked = lowerRoot freeTemp pageTree 0 5 fromPage
 
 -- what it leaves
-page-right : answered 1 walked ≡ pageWith 5 3 2 pageCode pageConstants
-unfolding ofBits toBits nanBits capacity recordAt putRecord sameWords isAt positionFrom position append wordOf words tail bytesOf bit clear flip found allocated freed parameters lookup free takeOut putBack smallestFrom smallestFree allFree without taken givenBack nodeWord nodeAt binaryOp unaryOp emitInstruction storeConstant wordsOf hasDestination offsetWord regOf numberOf constantWords source sameRegister nameOf materialized lowerMaterializing moved named binarySources lowerArguments storeNamed storeKeyed lowerEntry lowerEntries lowerElse lowerTail lowerNode tested fusedSources fused jumpNode lowerExpression lowerJumpIfFalse lowerJumpIfTrue expressionBelow jumpBelow binaryRR binaryRK binaryKR unary comparison jumpRR jumpRK jumpKR jumpIf whole question1 question2 question3 question4 question5 question6 allBelow question7 question8 askNode askNodes questions begin lowerRoot answered lowerChecked lower placed registered allocateTemp freeTemp destination emit store loadConstant withOffset patchToNext mark patchArgument patchMarks patchArguments present entryNodes children bind
+page-right : loweredOf 1 walked ≡ pageWith 5 3 2 pageCode pageConstants
+unfolding ofBits toBits nanBits capacity recordAt putRecord sameWords isAt positionFrom position append wordOf words tail bytesOf bit clear flip found allocated freed parameters lookup free takeOut putBack smallestFrom smallestFree allFree without taken givenBack nodeWord nodeAt binaryOp unaryOp emitInstruction storeConstant wordsOf hasDestination offsetWord regOf numberOf constantWords source sameRegister nameOf materialized lowerMaterializing moved lowerName binarySources lowerArguments storeNamed storeKeyed lowerEntry lowerEntries lowerElse lowerTail lowerNode test fusedSources fuse jumpNode lowerExpression lowerJumpIfFalse lowerJumpIfTrue expressionBelow jumpBelow binaryRR binaryRK binaryKR unary comparison jumpRR jumpRK jumpKR jumpIf whole question1 question2 question3 question4 question5 question6 allBelow question7 question8 askNode askNodes questions begin lowerRoot loweredOf lowerChecked lower placed registered allocateTemp freeTemp destination emit store loadConstant putOffset patchToNext mark patchArgument patchMarks patchArguments present entryNodes children bind
 page-right = refl
 
 -- ---- Law 3: word 6 is the constant of the then-branch, 1 for the number 1. With 2 there the code returns 2, and the value of the tree is 1.
 
 -- 1 of the number 1, and 0 of all else
-isOne : Worth Mismatch Datum → ℕ
-isOne (worth (number x)) = cond (eq x one) 1 0
-isOne (worth (string s)) = 0
-isOne (worth (boolean b)) = 0
-isOne (worth nil) = 0
+isOne : Evaluation Mismatch Datum → ℕ
+isOne (evaluates (number x)) = cond (eq x one) 1 0
+isOne (evaluates (string s)) = 0
+isOne (evaluates (boolean b)) = 0
+isOne (evaluates nil) = 0
 isOne (fails y) = 0
 isOne undefined = 0
 
-one-two : _≡_ {A = Worth Mismatch Datum} (worth (number one)) (worth (number two)) → ⊥
+one-two : _≡_ {A = Evaluation Mismatch Datum} (evaluates (number one)) (evaluates (number two)) → ⊥
 unfolding isOne eq numberOf ofBits toBits nanBits
 one-two e = let z : _≡_ {A = ℕ} 1 0 = ap isOne e in omega arith
 
@@ -76,23 +76,23 @@ atTwo : Start pageTree 5
 unfolding isNan numberOf ofBits
 atTwo = page-start two refl (λ r. number two) refl
 
-worth-one : LawOf pageTree 5 (pageWith 5 3 2 (set pageCode 6 2) pageConstants) → _≡_ {A = Worth Mismatch Datum} (worth (number one)) (worth (number two))
-unfolding atTwo page-start compared numbers alike truthful lt le eq recordIn fetch constantAt constantOf target action act stepAt step after decode ofBits toBits nanBits capacity recordAt putRecord sameWords isAt positionFrom position append wordOf words tail bytesOf bit clear flip found allocated freed parameters lookup free takeOut putBack smallestFrom smallestFree allFree without taken givenBack nodeWord nodeAt binaryOp unaryOp emitInstruction storeConstant wordsOf hasDestination offsetWord regOf numberOf constantWords source sameRegister nameOf materialized lowerMaterializing moved named binarySources lowerArguments storeNamed storeKeyed lowerEntry lowerEntries lowerElse lowerTail lowerNode tested fusedSources fused jumpNode lowerExpression lowerJumpIfFalse lowerJumpIfTrue expressionBelow jumpBelow binaryRR binaryRK binaryKR unary comparison jumpRR jumpRK jumpKR jumpIf whole question1 question2 question3 question4 question5 question6 allBelow question7 question8 askNode askNodes questions begin lowerRoot answered lowerChecked lower placed registered allocateTemp freeTemp destination emit store loadConstant withOffset patchToNext mark patchArgument patchMarks patchArguments present entryNodes children bind
-worth-one law = sym (page-worth two) ∙ law .returns atTwo (number two) .1 (4, refl)
+value-one : LawOf pageTree 5 (pageWith 5 3 2 (set pageCode 6 2) pageConstants) → _≡_ {A = Evaluation Mismatch Datum} (evaluates (number one)) (evaluates (number two))
+unfolding atTwo page-start ieeeCompare onNumbers alike ieeeTest lt le eq recordIn fetch constantAt constantOf target action act stepAt machineStep after decode ofBits toBits nanBits capacity recordAt putRecord sameWords isAt positionFrom position append wordOf words tail bytesOf bit clear flip found allocated freed parameters lookup free takeOut putBack smallestFrom smallestFree allFree without taken givenBack nodeWord nodeAt binaryOp unaryOp emitInstruction storeConstant wordsOf hasDestination offsetWord regOf numberOf constantWords source sameRegister nameOf materialized lowerMaterializing moved lowerName binarySources lowerArguments storeNamed storeKeyed lowerEntry lowerEntries lowerElse lowerTail lowerNode test fusedSources fuse jumpNode lowerExpression lowerJumpIfFalse lowerJumpIfTrue expressionBelow jumpBelow binaryRR binaryRK binaryKR unary comparison jumpRR jumpRK jumpKR jumpIf whole question1 question2 question3 question4 question5 question6 allBelow question7 question8 askNode askNodes questions begin lowerRoot loweredOf lowerChecked lower placed registered allocateTemp freeTemp destination emit store loadConstant putOffset patchToNext mark patchArgument patchMarks patchArguments present entryNodes children bind
+value-one law = sym (page-value two) ∙ law .returns atTwo (number two) .1 (4, refl)
 
 pub law-refuted : LawOf pageTree 5 (pageWith 5 3 2 (set pageCode 6 2) pageConstants) → ⊥
-law-refuted law = one-two (worth-one law)
+law-refuted law = one-two (value-one law)
 
 -- ---- Law 2: the frame size is 2. A register above 255, an index above 65,535, and a constant twice.
 
-page-frame : left walked .state .registers .«frame_size» ≡ 2
-unfolding left ofBits toBits nanBits capacity recordAt putRecord sameWords isAt positionFrom position append wordOf words tail bytesOf bit clear flip found allocated freed parameters lookup free takeOut putBack smallestFrom smallestFree allFree without taken givenBack nodeWord nodeAt binaryOp unaryOp emitInstruction storeConstant wordsOf hasDestination offsetWord regOf numberOf constantWords source sameRegister nameOf materialized lowerMaterializing moved named binarySources lowerArguments storeNamed storeKeyed lowerEntry lowerEntries lowerElse lowerTail lowerNode tested fusedSources fused jumpNode lowerExpression lowerJumpIfFalse lowerJumpIfTrue expressionBelow jumpBelow binaryRR binaryRK binaryKR unary comparison jumpRR jumpRK jumpKR jumpIf whole question1 question2 question3 question4 question5 question6 allBelow question7 question8 askNode askNodes questions begin lowerRoot answered lowerChecked lower placed registered allocateTemp freeTemp destination emit store loadConstant withOffset patchToNext mark patchArgument patchMarks patchArguments present entryNodes children bind
+page-frame : madeOf walked .state .registers .«frame_size» ≡ 2
+unfolding madeOf ofBits toBits nanBits capacity recordAt putRecord sameWords isAt positionFrom position append wordOf words tail bytesOf bit clear flip found allocated freed parameters lookup free takeOut putBack smallestFrom smallestFree allFree without taken givenBack nodeWord nodeAt binaryOp unaryOp emitInstruction storeConstant wordsOf hasDestination offsetWord regOf numberOf constantWords source sameRegister nameOf materialized lowerMaterializing moved lowerName binarySources lowerArguments storeNamed storeKeyed lowerEntry lowerEntries lowerElse lowerTail lowerNode test fusedSources fuse jumpNode lowerExpression lowerJumpIfFalse lowerJumpIfTrue expressionBelow jumpBelow binaryRR binaryRK binaryKR unary comparison jumpRR jumpRK jumpKR jumpIf whole question1 question2 question3 question4 question5 question6 allBelow question7 question8 askNode askNodes questions begin lowerRoot loweredOf lowerChecked lower placed registered allocateTemp freeTemp destination emit store loadConstant putOffset patchToNext mark patchArgument patchMarks patchArguments present entryNodes children bind
 page-frame = refl
 
 pub frames-refuted : FramesOf (pageWith 5 3 3 pageCode pageConstants) → ⊥
-unfolding left
+unfolding madeOf
 frames-refuted f =
-    let same : left walked .state .registers .«frame_size» ≡ f .made .state .registers .«frame_size» = ap (λ o. left o .state .registers .«frame_size») (f .is) in
+    let same : madeOf walked .state .registers .«frame_size» ≡ f .made .state .registers .«frame_size» = ap (λ o. madeOf o .state .registers .«frame_size») (f .is) in
     omega (arith, f .size, page-frame)
 
 pub fit-register-refuted : FitOf (pageWith 5 3 2 (set pageCode 5 256) pageConstants) → ⊥
@@ -110,15 +110,15 @@ fit-distinct-refuted f = f .distinct 0 1 (omega arith) (omega arith) refl
 
 -- ---- Law 1: what came back, word for word; and nothing past the counts
 
-page-word : getD (left walked .code) 3 0 ≡ 3
-unfolding left ofBits toBits nanBits capacity recordAt putRecord sameWords isAt positionFrom position append wordOf words tail bytesOf bit clear flip found allocated freed parameters lookup free takeOut putBack smallestFrom smallestFree allFree without taken givenBack nodeWord nodeAt binaryOp unaryOp emitInstruction storeConstant wordsOf hasDestination offsetWord regOf numberOf constantWords source sameRegister nameOf materialized lowerMaterializing moved named binarySources lowerArguments storeNamed storeKeyed lowerEntry lowerEntries lowerElse lowerTail lowerNode tested fusedSources fused jumpNode lowerExpression lowerJumpIfFalse lowerJumpIfTrue expressionBelow jumpBelow binaryRR binaryRK binaryKR unary comparison jumpRR jumpRK jumpKR jumpIf whole question1 question2 question3 question4 question5 question6 allBelow question7 question8 askNode askNodes questions begin lowerRoot answered lowerChecked lower placed registered allocateTemp freeTemp destination emit store loadConstant withOffset patchToNext mark patchArgument patchMarks patchArguments present entryNodes children bind
+page-word : getD (madeOf walked .code) 3 0 ≡ 3
+unfolding madeOf ofBits toBits nanBits capacity recordAt putRecord sameWords isAt positionFrom position append wordOf words tail bytesOf bit clear flip found allocated freed parameters lookup free takeOut putBack smallestFrom smallestFree allFree without taken givenBack nodeWord nodeAt binaryOp unaryOp emitInstruction storeConstant wordsOf hasDestination offsetWord regOf numberOf constantWords source sameRegister nameOf materialized lowerMaterializing moved lowerName binarySources lowerArguments storeNamed storeKeyed lowerEntry lowerEntries lowerElse lowerTail lowerNode test fusedSources fuse jumpNode lowerExpression lowerJumpIfFalse lowerJumpIfTrue expressionBelow jumpBelow binaryRR binaryRK binaryKR unary comparison jumpRR jumpRK jumpKR jumpIf whole question1 question2 question3 question4 question5 question6 allBelow question7 question8 askNode askNodes questions begin lowerRoot loweredOf lowerChecked lower placed registered allocateTemp freeTemp destination emit store loadConstant putOffset patchToNext mark patchArgument patchMarks patchArguments present entryNodes children bind
 page-word = refl
 
 pub ended-refuted : EndedOf (pageWith 5 3 2 (set pageCode 3 4) pageConstants) → ⊥
-unfolding left
+unfolding madeOf
 ended-refuted e =
     let shown : _≡_ {A = ℕ} 4 (getD (e .made .code) 3 0) = ap (λ x. getD (x .code) 3 0) (e .shown) in
-    let same : getD (left walked .code) 3 0 ≡ getD (e .made .code) 3 0 = ap (λ o. getD (left o .code) 3 0) (e .is) in
+    let same : getD (madeOf walked .code) 3 0 ≡ getD (e .made .code) 3 0 = ap (λ o. getD (madeOf o .code) 3 0) (e .is) in
     omega (arith, page-word)
 
 pub within-refuted : WithinOf (pageWith 5 3 2 (set pageCode 20 8) pageConstants) → ⊥
@@ -132,16 +132,16 @@ within-count-refuted w = omega (arith, w .code-fits)
 
 abbrev pub halted : Outcome ℕ
 halted = lowerRoot freeTemp (treeOf (bytesOf noElse) [] (bytesOf (7 ∷ []))) 0 2
-    (start (bytesOf noElse) 2 0 [] (bytesOf (7 ∷ [])) (replicate 32 9) (replicate 12 9) (replicate 2 9))
+    (nothingMade (bytesOf noElse) 2 0 [] (bytesOf (7 ∷ [])) (replicate 32 9) (replicate 12 9) (replicate 2 9))
 
-pub no-else-right : answered 1 halted ≡ noElseWith 11 2 12 noElseCode
-unfolding ofBits toBits nanBits capacity recordAt putRecord sameWords isAt positionFrom position append wordOf words tail bytesOf bit clear flip found allocated freed parameters lookup free takeOut putBack smallestFrom smallestFree allFree without taken givenBack nodeWord nodeAt binaryOp unaryOp emitInstruction storeConstant wordsOf hasDestination offsetWord regOf numberOf constantWords source sameRegister nameOf materialized lowerMaterializing moved named binarySources lowerArguments storeNamed storeKeyed lowerEntry lowerEntries lowerElse lowerTail lowerNode tested fusedSources fused jumpNode lowerExpression lowerJumpIfFalse lowerJumpIfTrue expressionBelow jumpBelow binaryRR binaryRK binaryKR unary comparison jumpRR jumpRK jumpKR jumpIf whole question1 question2 question3 question4 question5 question6 allBelow question7 question8 askNode askNodes questions begin lowerRoot answered lowerChecked lower placed registered allocateTemp freeTemp destination emit store loadConstant withOffset patchToNext mark patchArgument patchMarks patchArguments present entryNodes children bind
+pub no-else-right : loweredOf 1 halted ≡ noElseWith 11 2 12 noElseCode
+unfolding ofBits toBits nanBits capacity recordAt putRecord sameWords isAt positionFrom position append wordOf words tail bytesOf bit clear flip found allocated freed parameters lookup free takeOut putBack smallestFrom smallestFree allFree without taken givenBack nodeWord nodeAt binaryOp unaryOp emitInstruction storeConstant wordsOf hasDestination offsetWord regOf numberOf constantWords source sameRegister nameOf materialized lowerMaterializing moved lowerName binarySources lowerArguments storeNamed storeKeyed lowerEntry lowerEntries lowerElse lowerTail lowerNode test fusedSources fuse jumpNode lowerExpression lowerJumpIfFalse lowerJumpIfTrue expressionBelow jumpBelow binaryRR binaryRK binaryKR unary comparison jumpRR jumpRK jumpKR jumpIf whole question1 question2 question3 question4 question5 question6 allBelow question7 question8 askNode askNodes questions begin lowerRoot loweredOf lowerChecked lower placed registered allocateTemp freeTemp destination emit store loadConstant putOffset patchToNext mark patchArgument patchMarks patchArguments present entryNodes children bind
 no-else-right = refl
 
 -- what comes back is what the walk stopped with
 stopped-shows : {l : Lowered} → StoppedOf l → l ≡ noElseWith 11 2 12 noElseCode
-unfolding answered
-stopped-shows s = s .shown ∙ sym (ap (answered 1) (s .is)) ∙ no-else-right
+unfolding loweredOf
+stopped-shows s = s .shown ∙ sym (ap (loweredOf 1) (s .is)) ∙ no-else-right
 
 pub stopped-number-refuted : StoppedOf (noElseWith 12 2 12 noElseCode) → ⊥
 stopped-number-refuted s = omega (arith, ap (λ x. x .result .number) (stopped-shows s))
@@ -193,11 +193,11 @@ module _ (m : Made) (r : ℕ) (sound : Sound (registersOf m)) (h : Held m r) whe
 abbrev unmade : Made
 unmade = made [] [] [] (record { registers = allFree; instructions = 0; constants = 0; marks = 0 })
 
-pub smallest-first-refuted : (jump : ℕ → Walk ℕ) → SmallestFirst literal takesOne jump → ⊥
-unfolding lowerMaterializing materialized source bind beforeRegister nodeAt nodeWord left
+pub smallest-first-refuted : (jump : ℕ → Walk ℕ) → SmallestFirst noWords takesOne jump → ⊥
+unfolding lowerMaterializing materialized source bind beforeRegister nodeAt nodeWord madeOf
 smallest-first-refuted jump f =
     let k = f 0 1 unmade (withRegisters (without allFree 1) unmade) refl in
-    let same : held allFree 0 ≡ held (k .when .state .registers) 0 = ap (λ o. held (left o .state .registers) 0) (k .before) in
+    let same : held allFree 0 ≡ held (k .when .state .registers) 0 = ap (λ o. held (madeOf o .state .registers) 0) (k .before) in
     false≢true (sym (all-free 0) ∙ same ∙ k .smallest .smaller-held 0 (omega arith))
 
 -- the same of a register that a run takes

@@ -14,14 +14,14 @@ use Rattle.runtime.specs.Instruction.{instructionWidth, wordsOf, hasDestination
 use Rattle.lowering.specs.declared.Dest.{Dest}
 use Rattle.lowering.specs.Tree.{Tree}
 use Rattle.lowering.specs.Checked.{Checked}
-use Rattle.lowering.specs.Walk.{Made, Outcome, ends, stops, Walk, error, left}
+use Rattle.lowering.specs.Walk.{Made, Outcome, ends, stops, Walk, error, madeOf}
 use Rattle.lowering.specs.Steps.{freeTemp, freeHeld, withCode, patchArgument, patchMarks, patchArguments}
 use Rattle.lowering.specs.Lower.{lowerExpression, lowerJumpIfFalse, expressionBelow}
 use Rattle.lowering.specs.Result.{lowerRoot}
 use Rattle.lowering.specs.Meaning.{here}
 use Rattle.lowering.specs.Trace.{Runs, step, reads, counts, moves, refuses, Own, registersOf, instructionsOf, marksOf, kindAt, firstField, Marked}
 use Rattle.lowering.proofs.Running.Steps.{Holds, fine, void}
-use Rattle.lowering.proofs.Walk.StepsRun.{GiveBack, Good, chain, done, ready-small, emit-good}
+use Rattle.lowering.proofs.Walk.StepsRun.{GiveBack, Good, chain, done, register-ready-small, emit-good}
 use Rattle.lowering.proofs.Walk.NodesRun.{materializing-good}
 use Rattle.lowering.proofs.Walk.StepLaws.{expression-runs, jump-runs, jump-true-runs}
 use Rattle.lowering.proofs.Walk.NothingBeyond.{Grows, runs-grow}
@@ -29,7 +29,7 @@ use Rattle.lowering.proofs.Walk.NothingBeyond.{Grows, runs-grow}
 module _ {t : Tree} {root : ℕ} where
   -- what a good walk leaves where it ends
   grown : {A : Type 0} {P : A → Made → Type 0} {w : GiveBack → Walk A} {m : Made} → Good t root P w m → Good t root (λ a n. P a n × Grows m n) w m
-  unfolding left
+  unfolding madeOf
   grown {A} {P} {w} {m} g = record { runs = g .runs; holds = go (g .runs) (g .holds); same = g .same }
     where
       go : {o : Outcome A} → Runs t root A (w freeTemp) m o → Holds P o → Holds (λ a n. P a n × Grows m n) o
@@ -93,7 +93,7 @@ module _ (t : Tree) (root : ℕ) (checked : Checked t) (few : length (t .names) 
   root-good zero m s good =
       chain (grown (materializing-good t root (λ F. expressionBelow F t (suc root) root) Dest.Any m tt
       (expression-runs t root checked few (suc root) root (omega arith, here) Dest.Any m s tt))) (λ src m1 a.
-      chain (grown (emit-good (Instruction.Return (regOf src)) m1 (ready-small m1 src (a .0 .ready), omega arith, omega arith))) (λ p m2 b.
+      chain (grown (emit-good (Instruction.Return (regOf src)) m1 (register-ready-small m1 src (a .0 .ready), omega arith, omega arith))) (λ p m2 b.
       chain (arguments-good m2 (b .1 .marked (a .1 .marked good))) (λ u m3 q. done 0 tt)))
   root-good (suc zero) m s good =
       chain (grown (jump-runs t root checked few (suc root) root (omega arith, here) m s)) (λ j m1 a.

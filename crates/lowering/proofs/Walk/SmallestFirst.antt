@@ -16,7 +16,7 @@ use Rattle.lowering.specs.declared.Dest.{Dest}
 use Rattle.lowering.specs.Tree.{Tree, node}
 use Rattle.lowering.specs.Walk.{Made, Outcome, ends, stops, Walk, bind, _>>=_, _>>_, ret}
 use Rattle.lowering.specs.Steps.{registered, withRegisters, allocateTemp, destination, freeTemp, emit, store, loadConstant}
-use Rattle.lowering.specs.Lower.{Source, register, constant, source, materialized, lowerMaterializing, moved, named, binarySources, lowerArguments, lowerNode, lowerExpression, lowerJumpIfFalse}
+use Rattle.lowering.specs.Lower.{Source, register, constant, source, materialized, lowerMaterializing, moved, lowerName, binarySources, lowerArguments, lowerNode, lowerExpression, lowerJumpIfFalse}
 use Rattle.lowering.specs.Smallest.{SmallestFree, beforeRegister, SmallestFirst}
 use Rattle.lowering.specs.Checked.{Checked}
 use Rattle.lowering.proofs.Bound.Lowering.{expression-at}
@@ -123,12 +123,12 @@ literal-first c s m n r e = loaded-first c m n r (subst (λ x. materialized x De
 
 -- a name answers its own register, a local
 name-local : (t : Tree) (i symbol : ℕ) (m n : Made) (r : ℕ) →
-    bind (named t i (lookup (t .names) (length (t .names)) symbol) Dest.Any m) (λ src. materialized (source src) Dest.Any) ≡ ends (Register.Temp r) n → ⊥
-unfolding named moved bind source materialized
+    bind (lowerName t i (lookup (t .names) (length (t .names)) symbol) Dest.Any m) (λ src. materialized (source src) Dest.Any) ≡ ends (Register.Temp r) n → ⊥
+unfolding lowerName moved bind source materialized
 name-local t i symbol m n r e = go (lookup (t .names) (length (t .names)) symbol) refl e
   where
     go : (f : Found) → lookup (t .names) (length (t .names)) symbol ≡ f →
-        bind (named t i f Dest.Any m) (λ src. materialized (source src) Dest.Any) ≡ ends (Register.Temp r) n → ⊥
+        bind (lowerName t i f Dest.Any m) (λ src. materialized (source src) Dest.Any) ≡ ends (Register.Temp r) n → ⊥
     go (Found.At x) q z = local-temp (sym (lookup-found (t .names) (length (t .names)) symbol x q .local) ∙ answer-of z)
     go (Found.Refused refusal) q z = stop-end z
 

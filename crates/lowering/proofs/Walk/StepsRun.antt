@@ -36,13 +36,13 @@ use Rattle.syntax.specs.declared.ast.Node.{Node}
 use Rattle.lowering.specs.declared.Dest.{Dest}
 use Rattle.lowering.specs.Tree.{Tree, node, spanStart, spanEnd}
 use Rattle.lowering.specs.Walk.{Made, Outcome, ends, stops, Walk, bind, _>>=_, _>>_, ret, error, unnamed}
-use Rattle.lowering.specs.Steps.{placed, registered, withRegisters, withCode, withConstants, withMarks, withOffset, allocateTemp, destination, freeTemp, freeHeld, emit, store, patchToNext, mark}
+use Rattle.lowering.specs.Steps.{placed, registered, withRegisters, withCode, withConstants, withMarks, putOffset, allocateTemp, destination, freeTemp, freeHeld, emit, store, patchToNext, mark}
 use Rattle.lowering.specs.Meaning.{Reaches}
 use Rattle.lowering.specs.Fields.{Narrow}
-use Rattle.lowering.specs.Trace.{Runs, step, returns, follows, halts, Step, takes, gives, leaves, emits, finds, pools, patches, marks, refuses, Own, Owned, registersOf, Held, Free, instructionsOf, constantsOf, marksOf, kindAt, JumpKind}
+use Rattle.lowering.specs.Trace.{Runs, step, returns, follows, halts, Step, takes, gives, keeps, emits, finds, pools, patches, marks, refuses, Own, Owned, registersOf, Held, Free, instructionsOf, constantsOf, marksOf, kindAt, JumpKind}
 use Rattle.runtime.proofs.Encoding.{length-words-of}
 use Rattle.lowering.proofs.Running.Decode.{constant-length, offset-small}
-use Rattle.lowering.proofs.Running.Steps.{Holds, fine, void, apart}
+use Rattle.lowering.proofs.Running.Steps.{Holds, fine, void, apart, Differ}
 
 -- what gives a register back
 abbrev pub GiveBack : Type 0
@@ -111,18 +111,18 @@ kept-trans a b = record {
 }
 
 -- a register that an instruction may use: a temporary that is held, or a local of the 256
-abbrev pub Ready : Made → Register → Type 0
-Ready m (Register.Temp r) = Held m r
-Ready m (Register.Local r) = r < 256
+abbrev pub RegisterReady : Made → Register → Type 0
+RegisterReady m (Register.Temp r) = Held m r
+RegisterReady m (Register.Local r) = r < 256
 
 -- a register that m does not hold, if it is a temporary
-abbrev pub Loose : Made → Register → Type 0
-Loose m (Register.Temp r) = Free m r
-Loose m (Register.Local r) = Unit {0}
+abbrev pub NotHeld : Made → Register → Type 0
+NotHeld m (Register.Temp r) = Free m r
+NotHeld m (Register.Local r) = Unit {0}
 
-pub ready-later : {m n : Made} (r : Register) → Kept m n → Ready m r → Ready n r
-ready-later (Register.Temp r) k h = k .held r h
-ready-later (Register.Local r) k h = h
+pub register-ready-later : {m n : Made} (r : Register) → Kept m n → RegisterReady m r → RegisterReady n r
+register-ready-later (Register.Temp r) k h = k .held r h
+register-ready-later (Register.Local r) k h = h
 
 held-small : (s : RegisterSet) (r : ℕ) → held s r ≡ true → r < 256
 unfolding held
@@ -132,76 +132,69 @@ held-small s r h = go (ltb r 256) _ refl h
     go true c e h = ltb-true r 256 e
     go false c e h = absurd (true≢false (sym h))
 
-pub ready-small : (m : Made) (r : Register) → Ready m r → regOf r < 256
+pub register-ready-small : (m : Made) (r : Register) → RegisterReady m r → regOf r < 256
 unfolding regOf
-ready-small m (Register.Temp r) h = held-small (registersOf m) r h
-ready-small m (Register.Local r) h = h
+register-ready-small m (Register.Temp r) h = held-small (registersOf m) r h
+register-ready-small m (Register.Local r) h = h
 
-pub loose-before : {m n : Made} (r : Register) → Kept m n → Loose n r → Loose m r
-loose-before {m} {n} (Register.Temp r) k f = go (held (registersOf m) r) refl
+pub not-held-before : {m n : Made} (r : Register) → Kept m n → NotHeld n r → NotHeld m r
+not-held-before {m} {n} (Register.Temp r) k f = go (held (registersOf m) r) refl
   where
     go : (b : Bool) → held (registersOf m) r ≡ b → held (registersOf m) r ≡ false
     go true e = absurd (true≢false (sym (k .held r e) ∙ f))
     go false e = e
-loose-before (Register.Local r) k f = tt
+not-held-before (Register.Local r) k f = tt
 
--- two registers that are not the same temporary
-abbrev pub Differ : Register → Register → Type 0
-Differ (Register.Temp a) (Register.Temp b) = b ≢ a
-Differ (Register.Temp a) (Register.Local b) = Unit {0}
-Differ (Register.Local a) (Register.Temp b) = Unit {0}
-Differ (Register.Local a) (Register.Local b) = Unit {0}
-
-pub differ : (m : Made) (a b : Register) → Ready m a → Loose m b → Differ a b
+pub differ : (m : Made) (a b : Register) → RegisterReady m a → NotHeld m b → Differ a b
 differ m (Register.Temp a) (Register.Temp b) h f = λ e. true≢false (sym h ∙ ap (λ r. held (registersOf m) r) (sym e) ∙ f)
 differ m (Register.Temp a) (Register.Local b) h f = tt
 differ m (Register.Local a) (Register.Temp b) h f = tt
 differ m (Register.Local a) (Register.Local b) h f = tt
 
 -- where an answer may stand: in a register that was not held, or in the one that was asked for
-abbrev pub Spot : Made → Dest → Register → Type 0
-Spot m Dest.Any r = Loose m r
-Spot m (Dest.To d) r = r ≡ d
+abbrev pub MayStand : Made → Dest → Register → Type 0
+MayStand m Dest.Any r = NotHeld m r
+MayStand m (Dest.To d) r = r ≡ d
 
-abbrev pub Target : Made → Dest → Type 0
-Target m Dest.Any = Unit {0}
-Target m (Dest.To d) = Ready m d
+abbrev pub DestReady : Made → Dest → Type 0
+DestReady m Dest.Any = Unit {0}
+DestReady m (Dest.To d) = RegisterReady m d
 
-pub target-later : {m n : Made} (dest : Dest) → Kept m n → Target m dest → Target n dest
-target-later Dest.Any k h = tt
-target-later (Dest.To d) k h = ready-later d k h
+pub dest-ready-later : {m n : Made} (dest : Dest) → Kept m n → DestReady m dest → DestReady n dest
+dest-ready-later Dest.Any k h = tt
+dest-ready-later (Dest.To d) k h = register-ready-later d k h
 
-pub spot-before : {m n : Made} (dest : Dest) (r : Register) → Kept m n → Spot n dest r → Spot m dest r
-spot-before Dest.Any r k h = loose-before r k h
-spot-before (Dest.To d) r k h = h
+pub may-stand-before : {m n : Made} (dest : Dest) (r : Register) → Kept m n → MayStand n dest r → MayStand m dest r
+may-stand-before Dest.Any r k h = not-held-before r k h
+may-stand-before (Dest.To d) r k h = h
 
 -- a register that holds an answer
 pub record Settled (m : Made) (dest : Dest) (r : Register) (n : Made) : Type 0 where
   pub kept : Kept m n
-  pub spot : Spot m dest r
-  pub ready : Ready n r
+  pub spot : MayStand m dest r
+  pub ready : RegisterReady n r
 
-pub record Emitted (i : Instruction) (m : Made) (p : ℕ) (n : Made) : Type 0 where
+pub record EmitKeeps (i : Instruction) (m : Made) (p : ℕ) (n : Made) : Type 0 where
   pub kept : Kept m n
   pub inside : p < instructionsOf n
   pub kind : kindAt n p ≡ getD (wordsOf i) 0 0
   pub registers : registersOf n ≡ registersOf m
 
-pub record Stored (m : Made) (k : ℕ) (n : Made) : Type 0 where
+pub record StoreKeeps (m : Made) (k : ℕ) (n : Made) : Type 0 where
   pub kept : Kept m n
   pub inside : k < constantsOf n
   pub registers : registersOf n ≡ registersOf m
 
-pub record Gave (m₀ m : Made) (r : Register) (n : Made) : Type 0 where
+pub record GiveKeeps (m₀ m : Made) (r : Register) (n : Made) : Type 0 where
   pub kept : Kept m₀ n
-  pub still : (x : Register) → Differ r x → Ready m x → Ready n x
+  pub still : (x : Register) → Differ r x → RegisterReady m x → RegisterReady n x
   pub sound : Sound (registersOf n)
 
 -- word 0 of a record
 kind-word : (ws : List ℕ) (p : ℕ) → getD ws (instructionWidth * p) 0 ≡ getD (recordAt instructionWidth ws p) 0 0
 kind-word ws p = ap (λ i. getD ws i 0) (sym (add-zero (instructionWidth * p))) ∙ sym (record-word instructionWidth ws p 0 (omega arith))
 
-pub record Patched (m n : Made) : Type 0 where
+pub record PatchKeeps (m n : Made) : Type 0 where
   pub kept : Kept m n
   pub registers : registersOf n ≡ registersOf m
 
@@ -246,13 +239,13 @@ module _ {t : Tree} {root : ℕ} where
           (result (Found.Refused refusal) e ∙ ap (λ x. stops (unnamed x) (withRegisters (allocated Register.Temp (registersOf m) .set) m)) (k .reason) ∙ ap (λ x. stops (unnamed Refusal.Registers) (withRegisters x m)) (k .unchanged))
           (Own.registers (k .all-held))
 
-  pub destination-good : (m : Made) (dest : Dest) → Target m dest → Good t root (Settled m dest) (λ F. destination dest) m
+  pub destination-good : (m : Made) (dest : Dest) → DestReady m dest → Good t root (Settled m dest) (λ F. destination dest) m
   unfolding destination
   destination-good m (Dest.To d) h = done d (record { kept = kept-refl m; spot = refl; ready = h })
   destination-good m Dest.Any h = take-good m
 
   -- a register that an earlier state did not hold, given back
-  pub give-good : {m₀ m : Made} (r : Register) → Loose m₀ r → Ready m r → Sound (registersOf m) → Kept m₀ m → Good t root (λ u n. Gave m₀ m r n) (λ F. F r) m
+  pub give-good : {m₀ m : Made} (r : Register) → NotHeld m₀ r → RegisterReady m r → Sound (registersOf m) → Kept m₀ m → Good t root (λ u n. GiveKeeps m₀ m r n) (λ F. F r) m
   unfolding freeTemp freeHeld freed
   give-good {m₀} {m} (Register.Temp r) l h sound k =
       let g : Gives (registersOf m) r (givenBack (registersOf m) r) = gives-back (registersOf m) r sound h in
@@ -272,15 +265,15 @@ module _ {t : Tree} {root : ℕ} where
         same = rw h;
       }
     where
-      still : Gives (registersOf m) r (givenBack (registersOf m) r) → (x : Register) → Differ (Register.Temp r) x → Ready m x → Ready (withRegisters (givenBack (registersOf m) r) m) x
+      still : Gives (registersOf m) r (givenBack (registersOf m) r) → (x : Register) → Differ (Register.Temp r) x → RegisterReady m x → RegisterReady (withRegisters (givenBack (registersOf m) r) m) x
       still g (Register.Temp q) d y = g .others q d ∙ y
       still g (Register.Local q) d y = y
   give-good {m₀} {m} (Register.Local r) l h sound k =
-      record { runs = step (leaves r); holds = fine (record { kept = k; still = λ x d y. y; sound = sound }); same = refl }
+      record { runs = step (keeps r); holds = fine (record { kept = k; still = λ x d y. y; sound = sound }); same = refl }
 
   -- ---- code
 
-  pub emit-good : (i : Instruction) (m : Made) → Narrow (constantsOf m) (wordsOf i) → Good t root (Emitted i m) (λ F. emit i) m
+  pub emit-good : (i : Instruction) (m : Made) → Narrow (constantsOf m) (wordsOf i) → Good t root (EmitKeeps i m) (λ F. emit i) m
   unfolding emit emitInstruction placed
   emit-good i m narrow = go (decLt (instructionsOf m) maxInstructions) (decLt (instructionsOf m) (capacity instructionWidth (m .code)))
     where
@@ -296,7 +289,7 @@ module _ {t : Tree} {root : ℕ} where
           emit i m ≡ stops (unnamed Refusal.Code) m
       refused e = rw e
 
-      go : Dec (instructionsOf m < maxInstructions) → Dec (instructionsOf m < capacity instructionWidth (m .code)) → Good t root (Emitted i m) (λ F. emit i) m
+      go : Dec (instructionsOf m < maxInstructions) → Dec (instructionsOf m < capacity instructionWidth (m .code)) → Good t root (EmitKeeps i m) (λ F. emit i) m
       go (yes l) (yes h) =
           one {o = ends (instructionsOf m) (withCode put (instructionsOf m + 1) m)} (made l h) (emits i narrow l h)
           (fine (record {
@@ -320,7 +313,7 @@ module _ {t : Tree} {root : ℕ} where
 
   -- ---- the pool
 
-  pub store-good : (c : Operand) (m : Made) → Owned t root c → Good t root (Stored m) (λ F. store c) m
+  pub store-good : (c : Operand) (m : Made) → Owned t root c → Good t root (StoreKeeps m) (λ F. store c) m
   unfolding store placed
   store-good c m owned = go (decLt place n)
     where
@@ -352,7 +345,7 @@ module _ {t : Tree} {root : ℕ} where
           store c m ≡ stops (unnamed Refusal.Constants) m
       refused o e = rw (store-new (m .constants) (constantsOf m) c o, e)
 
-      new : n ≤ place → Dec (n < maxCount) → Dec (n < capacity constantWidth (m .constants)) → Good t root (Stored m) (λ F. store c) m
+      new : n ≤ place → Dec (n < maxCount) → Dec (n < capacity constantWidth (m .constants)) → Good t root (StoreKeeps m) (λ F. store c) m
       new o (yes l) (yes h) =
           one {o = ends n (withConstants put (n + 1) m)} (made o l h) (pools owned (λ q x. unpooled q (omega arith)) h)
           (fine (record { kept = record { sound = λ s. s; held = λ r x. x; more = le-refl _; pooled = omega arith; kinds = λ p q. refl }; inside = omega arith; registers = refl }))
@@ -363,7 +356,7 @@ module _ {t : Tree} {root : ℕ} where
           refusing (refused o (append-limit (m .constants) n maxCount (constantWords c) Refusal.Constants (omega arith)))
           (Own.constants owned (λ q x. unpooled q (omega arith)) (inr (omega arith)))
 
-      go : Dec (place < n) → Good t root (Stored m) (λ F. store c) m
+      go : Dec (place < n) → Good t root (StoreKeeps m) (λ F. store c) m
       go (yes l) =
           let search : First (m .constants) (constantWords c) (constantsOf m) 0 place = found-first in
           let there : recordAt constantWidth (m .constants) place ≡ constantWords c = rw (constant-length c) at (is-record (m .constants) (constantWords c) place (search .found (omega arith)) .1) in
@@ -375,15 +368,15 @@ module _ {t : Tree} {root : ℕ} where
 
   -- ---- jumps
 
-  pub patch-good : (j : ℕ) (m : Made) → j < instructionsOf m → JumpKind (kindAt m j) → Good t root (λ u n. Patched m n) (λ F. patchToNext j) m
-  unfolding patchToNext withOffset
-  patch-good j m l k = one {o = ends tt (withCode (withOffset (m .code) j (instructionsOf m - j)) (instructionsOf m) m)} made (patches j l k)
+  pub patch-good : (j : ℕ) (m : Made) → j < instructionsOf m → JumpKind (kindAt m j) → Good t root (λ u n. PatchKeeps m n) (λ F. patchToNext j) m
+  unfolding patchToNext putOffset
+  patch-good j m l k = one {o = ends tt (withCode (putOffset (m .code) j (instructionsOf m - j)) (instructionsOf m) m)} made (patches j l k)
       (fine (record { kept = record { sound = λ s. s; held = λ r x. x; more = le-refl _; pooled = le-refl _; kinds = other }; registers = refl }))
     where
-      made : patchToNext j m ≡ ends tt (withCode (withOffset (m .code) j (instructionsOf m - j)) (instructionsOf m) m)
+      made : patchToNext j m ≡ ends tt (withCode (putOffset (m .code) j (instructionsOf m - j)) (instructionsOf m) m)
       made = refl
 
-      other : (p : ℕ) → p < instructionsOf m → getD (withOffset (m .code) j (instructionsOf m - j)) (instructionWidth * p) 0 ≡ kindAt m p
+      other : (p : ℕ) → p < instructionsOf m → getD (putOffset (m .code) j (instructionsOf m - j)) (instructionWidth * p) 0 ≡ kindAt m p
       other p h =
           let o : ℕ = offsetWord (kindAt m j) in
           let a : 0 < o = offset-past (kindAt m j) k in
@@ -393,7 +386,7 @@ module _ {t : Tree} {root : ℕ} where
   -- ---- marks
 
   pub mark-good : (i : ℕ) {callee first count : ℕ} (m : Made) → Reaches t root i → node t i ≡ Node.FunctionCall callee first count →
-      Good t root (λ k n. Patched m n) (λ F. mark i (spanStart t i) (spanEnd t i)) m
+      Good t root (λ k n. PatchKeeps m n) (λ F. mark i (spanStart t i) (spanEnd t i)) m
   unfolding mark placed
   mark-good i m r e = go (ℕ-discrete (instructionsOf m) 0) (decLt (marksOf m) maxCount) (decLt (marksOf m) (capacity 1 (m .marks)))
     where
@@ -412,7 +405,7 @@ module _ {t : Tree} {root : ℕ} where
       refused z e = rw (ne-eqb (instructionsOf m) 0 z, e)
 
       go : Dec (instructionsOf m ≡ 0) → Dec (marksOf m < maxCount) → Dec (marksOf m < capacity 1 (m .marks)) →
-          Good t root (λ k n. Patched m n) (λ F. mark i (spanStart t i) (spanEnd t i)) m
+          Good t root (λ k n. PatchKeeps m n) (λ F. mark i (spanStart t i) (spanEnd t i)) m
       go (yes z) a b = refusing (none z) (Own.unmarked r e z)
       go (no z) (yes l) (yes h) =
           one {o = ends (marksOf m) (withMarks (putRecord 1 (m .marks) (marksOf m) ((instructionsOf m - 1) ∷ [])) (marksOf m + 1) m)} (made z l h)

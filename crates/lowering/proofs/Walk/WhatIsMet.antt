@@ -25,7 +25,7 @@ use Rattle.lowering.specs.Tree.{Tree, node}
 use Rattle.lowering.specs.Walk.{Made, Outcome, ends, stops, Walk, bind, _>>=_}
 use Rattle.lowering.specs.Steps.{freeTemp}
 use Rattle.lowering.specs.Operators.{comparison}
-use Rattle.lowering.specs.Lower.{nameOf, lowerMaterializing, named, lowerArguments, lowerEntry, lowerEntries, lowerElse, lowerTail, lowerNode, tested, fused, jumpNode, expressionBelow, jumpBelow, lowerExpression, lowerJumpIfFalse, lowerJumpIfTrue}
+use Rattle.lowering.specs.Lower.{nameOf, lowerMaterializing, lowerName, lowerArguments, lowerEntry, lowerEntries, lowerElse, lowerTail, lowerNode, test, fuse, jumpNode, expressionBelow, jumpBelow, lowerExpression, lowerJumpIfFalse, lowerJumpIfTrue}
 use Rattle.lowering.specs.Result.{lowerRoot}
 use Rattle.lowering.specs.Meets.{Part, left, right, operand, negated, and-left, and-right, or-left, or-right, condition, then-branch, else-branch, tail, argument, called, object, key, value, Meets, here, below}
 
@@ -82,10 +82,10 @@ module _ (t : Tree) (E : ℕ → Dest → Walk Operand) where
 
   -- the node itself
   never-bad : {n : Node} → Bad t n → (J : ℕ → Walk ℕ) (i : ℕ) (dest : Dest) → Never (lowerNode freeTemp t E J i n dest)
-  unfolding lowerNode named lowerElse lowerEntry
+  unfolding lowerNode lowerName lowerElse lowerEntry
   never-bad (undeclared {symbol = symbol} h) J i dest = go (lookup (t .names) (length (t .names)) symbol) refl
     where
-      go : (f : Found) → lookup (t .names) (length (t .names)) symbol ≡ f → Never (named t i f dest)
+      go : (f : Found) → lookup (t .names) (length (t .names)) symbol ≡ f → Never (lowerName t i f dest)
       go (Found.At r) e = let k : Last (t .names) (length (t .names)) symbol r = lookup-found (t .names) (length (t .names)) symbol r e in absurd (h (k .index) (k .in-range) (k .named))
       go (Found.Refused refusal) e = refused
   never-bad no-else J i dest = never-right _ (λ j. never-right _ (λ d. never-right _ (λ r. never-right _ (λ e. never-right _ (λ u. never-left _ refused)))))
@@ -152,12 +152,12 @@ module _ (t : Tree) (E : ℕ → Dest → Walk Operand) where
 
   -- as a condition
   module _ (sense : Bool) (own : Dest → Walk Operand) (o : (d : Dest) → Never (own d)) where
-    never-tested : Never (tested t E sense own)
-    unfolding tested lowerMaterializing
+    never-tested : Never (test t E sense own)
+    unfolding test lowerMaterializing
     never-tested = never-left _ (never-left _ (o Dest.Any))
 
-    never-fused : (c : Option Comparison) (l r : ℕ) → ((d : Dest) → Never (E l d)) ⊎ ((d : Dest) → Never (E r d)) → Never (fused t E sense own c l r)
-    unfolding fused
+    never-fused : (c : Option Comparison) (l r : ℕ) → ((d : Dest) → Never (E l d)) ⊎ ((d : Dest) → Never (E r d)) → Never (fuse t E sense own c l r)
+    unfolding fuse
     never-fused none l r h = never-tested
     never-fused (some c) l r (inl h) = never-left _ (h Dest.Any)
     never-fused (some c) l r (inr h) = never-right _ (λ x. never-left _ (h Dest.Any))

@@ -3,7 +3,7 @@ use mathlib.Core.Path.{refl, sym, ap, _∙_}
 use native.Mathlib.Omega.{arith}
 use lib.Seq.{length-take-le}
 use Rattle.listing.specs.Output.{lowerlist}
-use Rattle.lister.proofs.Laws.{listing-room, listed, cut-text}
+use Rattle.lower_text.proofs.Laws.{listing-room, listed, cut-text}
 use borrow.Author.Needs.{needs}
 use Rattle.lowerlist.proofs.list_input.Statement.{statement}
 use Rattle.lowerlist.proofs.list_input.Tie as tie

@@ -1,7 +1,7 @@
 -- `vectors::agrees` meets its contract: the buffer holds the whole listing, and the bytes compared are those of it. Assumes nothing.
 use mathlib.Core.Path.{sym, _∙_}
 use lib.Seq.{length-take-le}
-use Rattle.lister.proofs.Laws.{listing-room, listed}
+use Rattle.lower_text.proofs.Laws.{listing-room, listed}
 use Rattle.vectors.proofs.Laws.{same-words}
 use borrow.Author.Needs.{needs}
 use Rattle.vectors.proofs.agrees.Statement.{statement}

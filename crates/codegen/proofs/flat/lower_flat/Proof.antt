@@ -6,7 +6,7 @@ use native.Mathlib.Omega.{arith}
 use borrow.Author.Needs.{needs}
 use Rattle.steps.specs.Answers.{operandAt, settled}
 use Rattle.steps.proofs.Chains.{seen-word}
-use Rattle.codegen.proofs.FlatNodes.{loaded-operand, flat-leaf, flat-binary, flat-other, literal-flat, literal-itself, binary-flat, answered}
+use Rattle.codegen.proofs.FlatNodes.{loaded-operand, flat-leaf, flat-binary, flat-other, literal-flat, literal-itself, binary-flat, answer-word}
 use Rattle.codegen.proofs.flat.lower_flat.Statement.{statement}
 use Rattle.codegen.proofs.flat.lower_flat.Tie as tie
 
@@ -28,7 +28,7 @@ returns-2 c =
     let kind = rw (at-kind .node-word .ensures) at (at-loaded .before .before .before .before .if1 .taken) in
     let loaded = at-loaded .literal-into .ensures in (
       (λ list rs n m checked h. ap settled (literal-flat _ _ _ _ _ kind (at-loaded .before .before .before .if2 .left)) ∙ loaded-operand _ _ _ _ _ _ _ (start .pre .1 .0) (loaded .1) (loaded .0 _ rs n m)),
-      ((λ h. absurd (true≢false (sym (flat-leaf _ _ (omega (arith, kind))) ∙ h))), (λ h. answered _ _ (start .pre .1 .0) (loaded .1))),
+      ((λ h. absurd (true≢false (sym (flat-leaf _ _ (omega (arith, kind))) ∙ h))), (λ h. answer-word _ _ (start .pre .1 .0) (loaded .1))),
     )
 
 name-into-requires : tie.Need-name-into-requires
@@ -65,7 +65,7 @@ returns-5 c =
     let kind = sym (at-kind .node-word .ensures) ∙ at-binary .before .before .before .if4 .left in
     let ended = at-binary .binary-into .ensures in (
       (λ list rs n m checked h. ap settled (binary-flat _ _ _ _ _ kind) ∙ ended .0 list rs n m checked (sym (flat-binary _ _ kind) ∙ h)),
-      ((λ h. ended .1 .0 (sym (flat-binary _ _ kind) ∙ h)), (λ h. answered _ _ (start .pre .1 .0) (ended .1 .1 (sym (flat-binary _ _ kind) ∙ h)))),
+      ((λ h. ended .1 .0 (sym (flat-binary _ _ kind) ∙ h)), (λ h. answer-word _ _ (start .pre .1 .0) (ended .1 .1 (sym (flat-binary _ _ kind) ∙ h)))),
     )
 
 pub lower-flat-spec : {M : Type 1} → statement M

@@ -5,8 +5,8 @@ use Rattle.codegen.proofs.Conditions.{not-compared}
 use Rattle.codegen.proofs.lower_expression.lower_jump_if.Statement.{statement}
 use Rattle.codegen.proofs.lower_expression.lower_jump_if.Tie as tie
 
-lower-fused-requires : tie.Need-fuse-requires
-lower-fused-requires c κs =
+lower-fuse-requires : tie.Need-fuse-requires
+lower-fuse-requires c κs =
     let at-compared = c .before .before .before in
     let asked = at-compared .before in
     let start = asked .before .before .before .before .before .before .before in
@@ -23,7 +23,7 @@ lower-jump-if-spec =
     tie.close
     (tie.spec
     (λ c κs. search needs)
-    lower-fused-requires
+    lower-fuse-requires
     (λ c. search needs)
     (λ c. search needs)
     (λ c. search needs)

@@ -1,7 +1,7 @@
 -- `steps::answer::refusal_at` meets its contract: a refusal's number is below 2^31, so the word fits. Assumes nothing.
 use native.Mathlib.Omega.{arith}
 use borrow.Author.Needs.{needs}
-use Rattle.steps.specs.Answers.{refusalWord}
+use Rattle.steps.specs.Answers.{refusalAt}
 use Rattle.steps.proofs.Words.{refusal-small}
 use Rattle.steps.proofs.answer.refusal_at.Statement.{statement}
 use Rattle.steps.proofs.answer.refusal_at.Tie as tie
@@ -22,7 +22,7 @@ add-result-2 : tie.Need-add-result-2
 add-result-2 c = omega (arith, refusal-small (c .before .args .refusal))
 
 returns : tie.Need-returns
-unfolding refusalWord
+unfolding refusalAt
 returns c = search needs
 
 pub refusal-at-spec : {M : Type 1} → statement M

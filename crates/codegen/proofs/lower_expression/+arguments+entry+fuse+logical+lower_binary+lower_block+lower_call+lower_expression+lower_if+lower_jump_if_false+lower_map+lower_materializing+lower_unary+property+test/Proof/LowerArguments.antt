@@ -16,7 +16,7 @@ use Rattle.lowering.specs.Steps.{freeTemp}
 use Rattle.lowering.specs.Lower.{lowerArguments, lowerExpression}
 use Rattle.steps.specs.Answers.{unitAt, settled}
 use Rattle.steps.proofs.Chains.{then-marked, stop-marked}
-use Rattle.codegen.specs.Ready.{wordOf}
+use Rattle.codegen.specs.Ready.{nodeWordOf}
 use Rattle.codegen.proofs.Children.{child-seen, walk-requires}
 use Rattle.codegen.proofs.Branches.{then-branch, stop-branch, by-answer, call-below, arguments-of, arguments-none, then-argument, marked, stop-unmarked}
 use Rattle.codegen.proofs.lower_expression.arguments.Reads as lower-arguments
@@ -24,7 +24,7 @@ use Rattle.codegen.proofs.lower_expression.+arguments+entry+fuse+logica
 use Rattle.codegen.proofs.lower_expression.lower_materializing.Reads as lower-materializing
 use Rattle.codegen.proofs.flat.peek_into.Reads as peek-into-reads
 use Rattle.codegen.proofs.read.node_word.Reads as node-word-reads
-use Rattle.lower_ast.proofs.mark_argument.Reads as mark-argument-reads
+use Rattle.patch.proofs.mark_argument.Reads as mark-argument-reads
 use Rattle.steps.proofs.answer.answered.Reads as answered-reads
 use Rattle.steps.proofs.answer.is_refusal.Reads as is-refusal-reads
 use Rattle.steps.proofs.answer.local.Reads as local-reads
@@ -65,7 +65,7 @@ from-mark t c =
 -- the arguments are lower nodes, and few
 below : (t : ℕ) (c : lower-arguments-lts.At-loop (calls t) (lower-arguments-at t) lower-arguments.Post Inv-loop μ-loop) →
     let args = start t c .args in
-    CallBelow (treeOf (now (args .nodes)) (now (args .list)) (now (args .names))) (args .node) (wordOf (now (args .nodes)) (args .node) 1) (c .before .before .node-word .result) (c .before .node-word2 .result)
+    CallBelow (treeOf (now (args .nodes)) (now (args .list)) (now (args .names))) (args .node) (nodeWordOf (now (args .nodes)) (args .node) 1) (c .before .before .node-word .result) (c .before .node-word2 .result)
 below t c =
     let at-start = start t c in
     call-below (at-start .pre .1 .0 .0) _ (at-start .pre .1 .1) refl (c .before .before .node-word .ensures) (c .before .node-word2 .ensures)

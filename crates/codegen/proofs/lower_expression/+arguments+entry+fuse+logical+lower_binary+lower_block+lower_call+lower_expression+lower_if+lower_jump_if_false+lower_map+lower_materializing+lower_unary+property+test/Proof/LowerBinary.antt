@@ -19,7 +19,7 @@ use Rattle.lowering.specs.Steps.{freeTemp, destination}
 use Rattle.lowering.specs.Lower.{source, binarySources, lowerExpression}
 use Rattle.steps.specs.Answers.{any, registerAt, destOf, operandAt, settled, seen}
 use Rattle.steps.proofs.Chains.{then, stop-by, then-by}
-use Rattle.codegen.specs.Ready.{InArena, wordOf}
+use Rattle.codegen.specs.Ready.{InArena, nodeWordOf}
 use Rattle.codegen.specs.Kinds.{binaryKind}
 use Rattle.codegen.specs.Flat.{Falling}
 use Rattle.codegen.proofs.Walk.{falling, then-freed-source, ended}
@@ -211,11 +211,11 @@ module _ (t : ℕ) where
     abbrev d : ℕ
     d = at-destination (before-right walked-both) .value-of .result
 
-    operands-ready : Falling (now (at-start all-read .args .nodes)) × (InArena (now (at-start all-read .args .nodes)) (at-start all-read .args .node) × (wordOf (now (at-start all-read .args .nodes)) (at-start all-read .args .node) 0 ≡ binaryKind))
+    operands-ready : Falling (now (at-start all-read .args .nodes)) × (InArena (now (at-start all-read .args .nodes)) (at-start all-read .args .node) × (nodeWordOf (now (at-start all-read .args .nodes)) (at-start all-read .args .node) 0 ≡ binaryKind))
     operands-ready = (falling _ _ _ (checked all-read), (at-start all-read .pre .1 .0 .0 .1 .1, at-start all-read .pre .1 .1))
 
     then-both : {r : Outcome Operand} →
-        settled (binarySources freeTemp (tree all-read) (lowerExpression freeTemp (tree all-read)) (binaryOp (wordOf (now (at-start all-read .args .nodes)) (at-start all-read .args .node) 1)) (left all-read) (right all-read) (registerAt d)
+        settled (binarySources freeTemp (tree all-read) (lowerExpression freeTemp (tree all-read)) (binaryOp (nodeWordOf (now (at-start all-read .args .nodes)) (at-start all-read .args .node) 1)) (left all-read) (right all-read) (registerAt d)
         (source (operandAt (node (tree all-read) (left all-read)) (left-read walked-both .value-of2 .result))) (source (operandAt (node (tree all-read) (right all-read)) (c .value-of3 .result))) (after-right walked-both)) ≡ r →
         settled (lowerExpression freeTemp (tree all-read) (at-start all-read .args .node) (destOf (at-start all-read .args .dest)) (made-with all-read (at-start all-read .args .state))) ≡ r
     then-both q =

@@ -14,7 +14,7 @@ use Rattle.steps.proofs.Chains.{then-by, stop-by, then-emitted, stop-emitted}
 use Rattle.codegen.proofs.Walk.{then-freed, ended}
 use Rattle.codegen.proofs.Children.{child-seen, register-of, walk-requires}
 use Rattle.codegen.proofs.Operands.{register-word}
-use Rattle.codegen.proofs.Branches.{by-answer, fields, call-below, call-of}
+use Rattle.codegen.proofs.Branches.{by-answer, same-fields, call-below, call-of}
 use Rattle.codegen.proofs.lower_expression.lower_call.Reads as lower-call
 use Rattle.codegen.proofs.lower_expression.+arguments+entry+fuse+logical+lower_binary+lower_block+lower_call+lower_expression+lower_if+lower_jump_if_false+lower_map+lower_materializing+lower_unary+property+test.Lts-lower_call as lower-call-lts
 use Rattle.codegen.proofs.lower_expression.arguments.Reads as lower-arguments
@@ -157,7 +157,7 @@ returns-4 t c =
     let peeked = at-peeked .peek .ensures in
     let walked = at-callee .lower-materializing .ensures in
     let callee = register-of checked (peeked .1 .1) (walked .0) (walked .1) (λ h. peeked .1 .0 _ _ checked h refl) in
-    let told = fields _ (at-emitted .before .before .reg-of .ensures) (at-emitted .before .reg-of2 .ensures) (at-arguments .before .before .before .before .node-word2 .ensures) in
+    let told = same-fields _ (at-emitted .before .before .reg-of .ensures) (at-emitted .before .reg-of2 .ensures) (at-arguments .before .before .before .before .node-word2 .ensures) in
     by-answer _ _ _ _ _ _ (c .refused .ensures)
     (call-of checked _ (at-start .pre .1 .1) (at-words .node-word .ensures) _ _
     (then-by tree _ unitAt _ _ _ (at-arguments .arguments .ensures) (at-if1 .before .is-refusal .ensures) (at-if1 .if1 .left) refl
@@ -184,7 +184,7 @@ returns-5 t c =
     let peeked = at-peeked .peek .ensures in
     let walked = at-callee .lower-materializing .ensures in
     let callee = register-of checked (peeked .1 .1) (walked .0) (walked .1) (λ h. peeked .1 .0 _ _ checked h refl) in
-    let told = fields _ (at-emitted .before .before .reg-of .ensures) (at-emitted .before .reg-of2 .ensures) (at-arguments .before .before .before .before .node-word2 .ensures) in
+    let told = same-fields _ (at-emitted .before .before .reg-of .ensures) (at-emitted .before .reg-of2 .ensures) (at-arguments .before .before .before .before .node-word2 .ensures) in
     let few = register-word _ (at-asked .is-refusal2 .ensures) (at-value .before .if2 .left) (at-value .value-of .ensures) (at-asked .before .destination .ensures .1 (at-start .pre .1 .0 .1)) in
     by-answer _ _ _ _ _ _ (c .answered .ensures)
     (call-of checked _ (at-start .pre .1 .1) (at-words .node-word .ensures) _ _

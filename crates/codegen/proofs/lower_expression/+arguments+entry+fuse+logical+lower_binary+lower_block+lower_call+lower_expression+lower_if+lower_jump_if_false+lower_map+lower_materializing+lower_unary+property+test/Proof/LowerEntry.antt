@@ -1,12 +1,12 @@
 -- The needs of `entry`.
 use Prim.Native.Nat.{ℕ}
 use native.Mathlib.Omega.{arith}
-use mathlib.Core.Path.{_∙_}
+use mathlib.Core.Path.{refl, _∙_}
 use borrow.Author.Needs.{needs}
 use Rattle.steps.specs.Answers.{placeAt}
 use Rattle.steps.proofs.Chains.{then-by, stop-by}
 use Rattle.steps.proofs.Words.{source-operand}
-use Rattle.codegen.proofs.Children.{child-seen, child-asked, child-given}
+use Rattle.codegen.proofs.Children.{child-seen, walk-requires, operand-of}
 use Rattle.codegen.proofs.Entries.{below-absent, past-name, valued, leaf-key, key-and-value, store-both}
 use Rattle.codegen.proofs.lower_expression.entry.Reads as lower-entry
 use Rattle.codegen.proofs.lower_expression.lower_materializing.Reads as lower-materializing
@@ -53,7 +53,7 @@ lower-materializing-requires t c κs =
     let at-asked = at-tried .before .before .before in
     let at-kind = at-asked .before in
     let start = at-kind .before .before .before .before .before .before .before in
-    child-asked _ _ _ _ _ (start .pre .1 .0) (start .pre .1 .1 .1) _ t (omega (arith, start .pre .0)) (at-tried .peek .ensures .1 .1)
+    walk-requires _ _ _ _ _ _ (start .pre .1 .0) (start .pre .1 .1 .1) (omega (arith, start .pre .0)) (omega arith) (λ h. omega (arith, at-tried .peek .ensures .1 .1 h .1 .0))
 
 returns : (t : ℕ) → lower-entry-lts.Need-returns (calls t) (lower-entry-at t) lower-entry.Post
 returns t c =
@@ -62,7 +62,7 @@ returns t c =
     let at-asked = at-tried .before .before .before in
     let at-kind = at-asked .before in
     let start = at-kind .before .before .before .before .before .before .before in
-    let child = child-given _ _ _ _ _ _ _ _ _ _ _ _ _ _ _ (start .pre .1 .0 .0) (at-tried .peek .ensures .0) (at-tried .peek .ensures .1 .1) (at-walked .lower-materializing .ensures) in
+    let child = operand-of (start .pre .1 .0 .0) (at-tried .peek .ensures .1 .1) (at-walked .lower-materializing .ensures .0) (at-walked .lower-materializing .ensures .1) (λ h. at-tried .peek .ensures .0 _ _ (start .pre .1 .0 .0) h refl) in
     let has = below-absent _ _ (start .pre .1 .1 .1) (omega (arith, start .fits .node)) in
     leaf-key _ _ _ _ _ _ (rw (at-kind .node-word .ensures) at (at-asked .if1 .taken)) (λ e. has) (valued _ _ has)
     (stop-by _ _ _ _ _ _ child placeAt (c .before .is-refusal .ensures) (c .if2 .taken))
@@ -87,7 +87,7 @@ returns-2 t c =
     let at-asked = at-tried .before .before .before in
     let at-kind = at-asked .before in
     let start = at-kind .before .before .before .before .before .before .before in
-    let child = child-given _ _ _ _ _ _ _ _ _ _ _ _ _ _ _ (start .pre .1 .0 .0) (at-tried .peek .ensures .0) (at-tried .peek .ensures .1 .1) (at-walked .lower-materializing .ensures) in
+    let child = operand-of (start .pre .1 .0 .0) (at-tried .peek .ensures .1 .1) (at-walked .lower-materializing .ensures .0) (at-walked .lower-materializing .ensures .1) (λ h. at-tried .peek .ensures .0 _ _ (start .pre .1 .0 .0) h refl) in
     let has = below-absent _ _ (start .pre .1 .1 .1) (omega (arith, start .fits .node)) in
     leaf-key _ _ _ _ _ _ (rw (at-kind .node-word .ensures) at (at-asked .if1 .taken)) (λ e. has) (valued _ _ has)
     (then-by _ _ _ _ _ _ child (at-refusal .is-refusal .ensures) (at-value .before .before .if2 .left) (at-value .value-of .ensures)
@@ -106,7 +106,7 @@ lower-materializing-requires-2 t c κs =
     let at-tried = c .before .before .before .before .before .before .before in
     let at-kind = at-tried .before .before .before .before in
     let start = at-kind .before .before .before .before .before .before .before in
-    child-asked _ _ _ _ _ (start .pre .1 .0) (start .pre .1 .1 .0) _ t (omega (arith, start .pre .0)) (at-tried .peek2 .ensures .1 .1)
+    walk-requires _ _ _ _ _ _ (start .pre .1 .0) (start .pre .1 .1 .0) (omega (arith, start .pre .0)) (omega arith) (λ h. omega (arith, at-tried .peek2 .ensures .1 .1 h .1 .0))
 
 returns-3 : (t : ℕ) → lower-entry-lts.Need-returns-3 (calls t) (lower-entry-at t) lower-entry.Post
 returns-3 t c =
@@ -115,7 +115,7 @@ returns-3 t c =
     let at-asked = at-tried .before .before .before in
     let at-kind = at-asked .before in
     let start = at-kind .before .before .before .before .before .before .before in
-    let key = child-given _ _ _ _ _ _ _ _ _ _ _ _ _ _ _ (start .pre .1 .0 .0) (at-tried .peek2 .ensures .0) (at-tried .peek2 .ensures .1 .1) (at-walked .lower-materializing2 .ensures) in
+    let key = operand-of (start .pre .1 .0 .0) (at-tried .peek2 .ensures .1 .1) (at-walked .lower-materializing2 .ensures .0) (at-walked .lower-materializing2 .ensures .1) (λ h. at-tried .peek2 .ensures .0 _ _ (start .pre .1 .0 .0) h refl) in
     let kind = past-name (rw (at-kind .node-word .ensures) at (at-asked .if1 .left)) in
     key-and-value _ _ _ _ _ _ kind (below-absent _ _ (start .pre .1 .1 .1) (omega (arith, start .fits .node)))
     (stop-by _ _ _ _ _ _ key placeAt (c .before .is-refusal2 .ensures) (c .if3 .taken))
@@ -139,7 +139,7 @@ lower-materializing-requires-3 t c κs =
     let at-asked = at-tried .before .before .before in
     let at-kind = at-asked .before in
     let start = at-kind .before .before .before .before .before .before .before in
-    child-asked _ _ _ _ _ (start .pre .1 .0) (start .pre .1 .1 .1) _ t (omega (arith, start .pre .0)) (at-tried2 .peek3 .ensures .1 .1)
+    walk-requires _ _ _ _ _ _ (start .pre .1 .0) (start .pre .1 .1 .1) (omega (arith, start .pre .0)) (omega arith) (λ h. omega (arith, at-tried2 .peek3 .ensures .1 .1 h .1 .0))
 
 returns-4 : (t : ℕ) → lower-entry-lts.Need-returns-4 (calls t) (lower-entry-at t) lower-entry.Post
 returns-4 t c =
@@ -153,8 +153,8 @@ returns-4 t c =
     let at-kind = at-asked .before in
     let start = at-kind .before .before .before .before .before .before .before in
     let checked = start .pre .1 .0 .0 in
-    let key = child-given _ _ _ _ _ _ _ _ _ _ _ _ _ _ _ checked (at-tried .peek2 .ensures .0) (at-tried .peek2 .ensures .1 .1) (at-walked .lower-materializing2 .ensures) in
-    let value = child-given _ _ _ _ _ _ _ _ _ _ _ _ _ _ _ checked (at-tried2 .peek3 .ensures .0) (at-tried2 .peek3 .ensures .1 .1) (at-walked2 .lower-materializing3 .ensures) in
+    let key = operand-of checked (at-tried .peek2 .ensures .1 .1) (at-walked .lower-materializing2 .ensures .0) (at-walked .lower-materializing2 .ensures .1) (λ h. at-tried .peek2 .ensures .0 _ _ checked h refl) in
+    let value = operand-of checked (at-tried2 .peek3 .ensures .1 .1) (at-walked2 .lower-materializing3 .ensures .0) (at-walked2 .lower-materializing3 .ensures .1) (λ h. at-tried2 .peek3 .ensures .0 _ _ checked h refl) in
     let kind = past-name (rw (at-kind .node-word .ensures) at (at-asked .if1 .left)) in
     key-and-value _ _ _ _ _ _ kind (below-absent _ _ (start .pre .1 .1 .1) (omega (arith, start .fits .node)))
     (then-by _ _ _ _ _ _ key (at-refusal .is-refusal2 .ensures) (at-value .before .if3 .left) (at-value .value-of2 .ensures)
@@ -189,8 +189,8 @@ returns-5 t c =
     let start = at-kind .before .before .before .before .before .before .before in
     let checked = start .pre .1 .0 .0 in
     let kind = past-name (rw (at-kind .node-word .ensures) at (at-asked .if1 .left)) in
-    let key = child-given _ _ _ _ _ _ _ _ _ _ _ _ _ _ _ checked (at-tried .peek2 .ensures .0) (at-tried .peek2 .ensures .1 .1) (at-walked .lower-materializing2 .ensures) in
-    let value = child-given _ _ _ _ _ _ _ _ _ _ _ _ _ _ _ checked (at-tried2 .peek3 .ensures .0) (at-tried2 .peek3 .ensures .1 .1) (at-walked2 .lower-materializing3 .ensures) in
+    let key = operand-of checked (at-tried .peek2 .ensures .1 .1) (at-walked .lower-materializing2 .ensures .0) (at-walked .lower-materializing2 .ensures .1) (λ h. at-tried .peek2 .ensures .0 _ _ checked h refl) in
+    let value = operand-of checked (at-tried2 .peek3 .ensures .1 .1) (at-walked2 .lower-materializing3 .ensures .0) (at-walked2 .lower-materializing3 .ensures .1) (λ h. at-tried2 .peek3 .ensures .0 _ _ checked h refl) in
     key-and-value _ _ _ _ _ _ kind (below-absent _ _ (start .pre .1 .1 .1) (omega (arith, start .fits .node)))
     (then-by _ _ _ _ _ _ key (at-refusal .is-refusal2 .ensures) (at-value .before .if3 .left) (at-value .value-of2 .ensures)
     (then-by _ _ _ _ _ _ value (at-refusal2 .is-refusal3 .ensures) (at-value2 .before .if4 .left) (at-value2 .value-of3 .ensures)

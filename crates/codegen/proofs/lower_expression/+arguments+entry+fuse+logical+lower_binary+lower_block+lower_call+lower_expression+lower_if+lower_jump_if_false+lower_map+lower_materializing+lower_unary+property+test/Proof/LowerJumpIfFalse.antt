@@ -6,17 +6,17 @@ use borrow.Author.Needs.{needs}
 use Rattle.lowering.proofs.Bound.Lowering.{jump-false-at}
 use Rattle.codegen.proofs.Walk.{falling}
 use Rattle.codegen.proofs.Conditions.{not-compared}
-use Rattle.codegen.proofs.lower_expression.fuse.Reads as lower-fused
+use Rattle.codegen.proofs.lower_expression.fuse.Reads as lower-fuse
 use Rattle.codegen.proofs.lower_expression.lower_jump_if_false.Reads as lower-jump-if-false
-use Rattle.codegen.proofs.lower_expression.test.Reads as lower-tested
+use Rattle.codegen.proofs.lower_expression.test.Reads as lower-test
 use Rattle.codegen.proofs.flat.peek_jump.Reads as peek-jump-reads
 use Rattle.codegen.proofs.lower_expression.is_compared.Reads as is-compared-reads
 use Rattle.steps.proofs.answer.is_inner.Reads as is-inner-reads
 use Rattle.codegen.proofs.lower_expression.+arguments+entry+fuse+logical+lower_binary+lower_block+lower_call+lower_expression+lower_if+lower_jump_if_false+lower_map+lower_materializing+lower_unary+property+test.Lts-lower_jump_if_false as lts
-use Rattle.codegen.proofs.lower_expression.+arguments+entry+fuse+logical+lower_binary+lower_block+lower_call+lower_expression+lower_if+lower_jump_if_false+lower_map+lower_materializing+lower_unary+property+test.Proof.Measures.{lower-fused-below, lower-jump-if-false-at, lower-tested-below}
+use Rattle.codegen.proofs.lower_expression.+arguments+entry+fuse+logical+lower_binary+lower_block+lower_call+lower_expression+lower_if+lower_jump_if_false+lower_map+lower_materializing+lower_unary+property+test.Proof.Measures.{lower-fuse-below, lower-jump-if-false-at, lower-test-below}
 
 abbrev calls : ℕ → lts.Claims
-calls t = (peek-jump-reads.Asked, peek-jump-reads.Learnt, is-inner-reads.Asked, is-inner-reads.Learnt, is-compared-reads.Asked, is-compared-reads.Learnt, lower-fused-below t, lower-fused.Post, lower-tested-below t, lower-tested.Post)
+calls t = (peek-jump-reads.Asked, peek-jump-reads.Learnt, is-inner-reads.Asked, is-inner-reads.Learnt, is-compared-reads.Asked, is-compared-reads.Learnt, lower-fuse-below t, lower-fuse.Post, lower-test-below t, lower-test.Post)
 
 -- where the node was tried, and where the function starts
 abbrev at-tried : (t : ℕ) → lts.After-is-inner (calls t) (lower-jump-if-false-at t) lower-jump-if-false.Post → lts.After-peek-jump (calls t) (lower-jump-if-false-at t) lower-jump-if-false.Post
@@ -32,8 +32,8 @@ peek-jump-requires t c κs =
     let start = c .before .before .before .before .before .before .before .before in
     (falling _ _ _ (start .pre .1 .0), start .pre .1 .1)
 
-lower-fused-requires : (t : ℕ) → lts.Need-fuse-requires (calls t) (lower-jump-if-false-at t) lower-jump-if-false.Post
-lower-fused-requires t c κs =
+lower-fuse-requires : (t : ℕ) → lts.Need-fuse-requires (calls t) (lower-jump-if-false-at t) lower-jump-if-false.Post
+lower-fuse-requires t c κs =
     let at-compared = c .before .before .before in
     let start = at-start t (at-compared .before .before .before) in
     (omega (arith, start .pre .0), (start .pre .1, sym (at-compared .before .is-compared .ensures) ∙ at-compared .if2 .taken))
@@ -71,7 +71,7 @@ lower-jump-if-false-proof t =
     (peek-jump-requires t)
     (λ c κs. search needs)
     (λ c κs. search needs)
-    (lower-fused-requires t)
+    (lower-fuse-requires t)
     (λ c. search needs)
     (λ c. search needs)
     (λ c. search needs)

@@ -22,7 +22,7 @@ use Rattle.steps.proofs.Chains.{then-by, stop-by, then-stored, stop-stored, the
 use Rattle.codegen.proofs.Walk.{then-freed, ended}
 use Rattle.codegen.proofs.Children.{child-seen, walk-requires, register-of}
 use Rattle.codegen.proofs.Operands.{register-word, fetched, property-below, property-of}
-use Rattle.codegen.proofs.Branches.{by-answer, fields}
+use Rattle.codegen.proofs.Branches.{by-answer, same-fields}
 use Rattle.codegen.proofs.flat.peek.Reads as peek-reads
 use Rattle.codegen.proofs.lower_expression.lower_materializing.Reads as lower-materializing
 use Rattle.codegen.proofs.lower_expression.property.Reads as lower-property
@@ -171,7 +171,7 @@ module _ (t : ℕ) where
       by-answer _ _ _ _ _ _ (c .refused2 .ensures)
       (then-object read
       (then-stored (tree (all-read read)) _ _ _ _ (at-stored .store-constant .ensures .0) (at-counted .before .if3 .left) (at-counted .counted .ensures Refusal.Constants)
-      (stop-emitted _ _ _ _ _ (fields _ (at-emitted .before .before .reg-of .ensures) (at-emitted .before .reg-of2 .ensures) refl) (at-emitted .emit-instruction .ensures .0) (operandAt _) (c .before .if4 .taken))))
+      (stop-emitted _ _ _ _ _ (same-fields _ (at-emitted .before .before .reg-of .ensures) (at-emitted .before .reg-of2 .ensures) refl) (at-emitted .emit-instruction .ensures .0) (operandAt _) (c .before .if4 .taken))))
 
   returns-5 : lts.Need-returns-5 (calls t) (lower-property-at t) lower-property.Post
   unfolding fetched wordsOf settled
@@ -184,7 +184,7 @@ module _ (t : ℕ) where
       by-answer _ _ _ _ _ _ (c .answered .ensures)
       (then-object read
       (then-stored (tree (all-read read)) _ _ _ _ (at-stored .store-constant .ensures .0) (at-counted .before .if3 .left) (at-counted .counted .ensures Refusal.Constants)
-      (then-emitted (tree (all-read read)) _ _ _ _ (fields _ (at-emitted .before .before .reg-of .ensures) (at-emitted .before .reg-of2 .ensures) refl) (at-emitted .emit-instruction .ensures .0)
+      (then-emitted (tree (all-read read)) _ _ _ _ (same-fields _ (at-emitted .before .before .reg-of .ensures) (at-emitted .before .reg-of2 .ensures) refl) (at-emitted .emit-instruction .ensures .0)
       (at-counted2 .before .if4 .left) (at-counted2 .counted2 .ensures Refusal.Code)
       (then-freed _ _ _ (c .before .give-back .ensures) (ended _ _ _ _ (few (at-destination (at-object read))))))))
 

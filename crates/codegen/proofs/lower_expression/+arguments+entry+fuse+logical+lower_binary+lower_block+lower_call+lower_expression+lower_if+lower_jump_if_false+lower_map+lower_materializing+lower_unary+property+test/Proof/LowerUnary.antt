@@ -21,7 +21,7 @@ use Rattle.steps.proofs.Chains.{then-by, stop-by, then-emitted, stop-emitted}
 use Rattle.codegen.proofs.Walk.{then-freed, ended}
 use Rattle.codegen.proofs.Children.{child-seen, walk-requires, register-of}
 use Rattle.codegen.proofs.Operands.{register-word, operated, singleInstruction, single-words, single-below, single-of}
-use Rattle.codegen.proofs.Branches.{by-answer, fields}
+use Rattle.codegen.proofs.Branches.{by-answer, same-fields}
 use Rattle.codegen.proofs.flat.peek.Reads as peek-reads
 use Rattle.codegen.proofs.lower_expression.lower_materializing.Reads as lower-materializing
 use Rattle.codegen.proofs.lower_expression.lower_unary.Reads as lower-unary
@@ -158,7 +158,7 @@ module _ (t : ℕ) where
       let at-emitted = c .before .before .before .before in
       let at-opcode = at-emitted .before .before .before .before in
       let opcode = at-opcode .only-opcode .ensures in
-      let told = single-words _ _ _ (opcode .0) (opcode .1) _ _ ∙ fields _ (at-emitted .before .before .reg-of .ensures) (at-emitted .before .reg-of2 .ensures) refl in
+      let told = single-words _ _ _ (opcode .0) (opcode .1) _ _ ∙ same-fields _ (at-emitted .before .before .reg-of .ensures) (at-emitted .before .reg-of2 .ensures) refl in
       by-answer _ _ _ _ _ _ (c .refused .ensures)
       (then-operand (at-opcode .before .before)
       (stop-emitted _ _ _ _ _ told (at-emitted .emit-instruction .ensures .0) (operandAt _) (c .before .if3 .taken)))
@@ -170,7 +170,7 @@ module _ (t : ℕ) where
       let at-emitted = at-counted .before .before .before .before in
       let at-opcode = at-emitted .before .before .before .before in
       let opcode = at-opcode .only-opcode .ensures in
-      let told = single-words _ _ _ (opcode .0) (opcode .1) _ _ ∙ fields _ (at-emitted .before .before .reg-of .ensures) (at-emitted .before .reg-of2 .ensures) refl in
+      let told = single-words _ _ _ (opcode .0) (opcode .1) _ _ ∙ same-fields _ (at-emitted .before .before .reg-of .ensures) (at-emitted .before .reg-of2 .ensures) refl in
       let read = at-opcode .before .before in
       by-answer _ _ _ _ _ _ (c .answered .ensures)
       (then-operand read

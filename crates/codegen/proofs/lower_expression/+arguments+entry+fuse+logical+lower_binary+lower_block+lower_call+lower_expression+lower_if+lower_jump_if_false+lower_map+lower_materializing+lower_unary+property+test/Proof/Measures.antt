@@ -18,8 +18,8 @@ use Rattle.codegen.proofs.lower_expression.entry.Reads as lower-entry
 use Rattle.codegen.proofs.lower_expression.entry.Kinds as lower-entry-kinds
 use Rattle.codegen.proofs.lower_expression.lower_expression.Reads as lower-expression
 use Rattle.codegen.proofs.lower_expression.lower_expression.Kinds as lower-expression-kinds
-use Rattle.codegen.proofs.lower_expression.fuse.Reads as lower-fused
-use Rattle.codegen.proofs.lower_expression.fuse.Kinds as lower-fused-kinds
+use Rattle.codegen.proofs.lower_expression.fuse.Reads as lower-fuse
+use Rattle.codegen.proofs.lower_expression.fuse.Kinds as lower-fuse-kinds
 use Rattle.codegen.proofs.lower_expression.lower_if.Reads as lower-if
 use Rattle.codegen.proofs.lower_expression.lower_if.Kinds as lower-if-kinds
 use Rattle.codegen.proofs.lower_expression.lower_jump_if_false.Reads as lower-jump-if-false
@@ -32,8 +32,8 @@ use Rattle.codegen.proofs.lower_expression.lower_materializing.Reads as
 use Rattle.codegen.proofs.lower_expression.lower_materializing.Kinds as lower-materializing-kinds
 use Rattle.codegen.proofs.lower_expression.property.Reads as lower-property
 use Rattle.codegen.proofs.lower_expression.property.Kinds as lower-property-kinds
-use Rattle.codegen.proofs.lower_expression.test.Reads as lower-tested
-use Rattle.codegen.proofs.lower_expression.test.Kinds as lower-tested-kinds
+use Rattle.codegen.proofs.lower_expression.test.Reads as lower-test
+use Rattle.codegen.proofs.lower_expression.test.Kinds as lower-test-kinds
 use Rattle.codegen.proofs.lower_expression.lower_unary.Reads as lower-unary
 use Rattle.codegen.proofs.lower_expression.lower_unary.Kinds as lower-unary-kinds
 
@@ -55,8 +55,8 @@ abbrev pub μ-lower-entry : Measures 6 lower-entry-kinds.ps ℕ
 abbrev pub μ-lower-expression : Measures 6 lower-expression-kinds.ps ℕ
 μ-lower-expression κs a = 8 * a .1 .1 .1 .1 .1 .1 .1 .0 + 2
 
-abbrev pub μ-lower-fused : Measures 6 lower-fused-kinds.ps ℕ
-μ-lower-fused κs a = 8 * a .1 .1 .1 .1 .1 .1 .1 .0 + 4
+abbrev pub μ-lower-fuse : Measures 6 lower-fuse-kinds.ps ℕ
+μ-lower-fuse κs a = 8 * a .1 .1 .1 .1 .1 .1 .1 .0 + 4
 
 abbrev pub μ-lower-if : Measures 6 lower-if-kinds.ps ℕ
 μ-lower-if κs a = 8 * a .1 .1 .1 .1 .1 .1 .1 .0 + 1
@@ -77,8 +77,8 @@ abbrev pub μ-lower-materializing : Measures 6 lower-materializing-kinds.ps ℕ
 abbrev pub μ-lower-property : Measures 6 lower-property-kinds.ps ℕ
 μ-lower-property κs a = 8 * a .1 .1 .1 .1 .1 .1 .1 .0 + 1
 
-abbrev pub μ-lower-tested : Measures 6 lower-tested-kinds.ps ℕ
-μ-lower-tested κs a = 8 * a .1 .1 .1 .1 .1 .1 .1 .0 + 3
+abbrev pub μ-lower-test : Measures 6 lower-test-kinds.ps ℕ
+μ-lower-test κs a = 8 * a .1 .1 .1 .1 .1 .1 .1 .0 + 3
 
 abbrev pub μ-lower-unary : Measures 6 lower-unary-kinds.ps ℕ
 μ-lower-unary κs a = 8 * a .1 .1 .1 .1 .1 .1 .1 .0 + 1
@@ -126,11 +126,11 @@ lower-expression-at = at lower-expression-kinds.ps μ-lower-expression lower-exp
 abbrev pub lower-expression-below : ℕ → In 6 lower-expression-kinds.ps
 lower-expression-below = below lower-expression-kinds.ps μ-lower-expression lower-expression.Pre
 
-abbrev pub lower-fused-at : ℕ → In 6 lower-fused-kinds.ps
-lower-fused-at = at lower-fused-kinds.ps μ-lower-fused lower-fused.Pre
+abbrev pub lower-fuse-at : ℕ → In 6 lower-fuse-kinds.ps
+lower-fuse-at = at lower-fuse-kinds.ps μ-lower-fuse lower-fuse.Pre
 
-abbrev pub lower-fused-below : ℕ → In 6 lower-fused-kinds.ps
-lower-fused-below = below lower-fused-kinds.ps μ-lower-fused lower-fused.Pre
+abbrev pub lower-fuse-below : ℕ → In 6 lower-fuse-kinds.ps
+lower-fuse-below = below lower-fuse-kinds.ps μ-lower-fuse lower-fuse.Pre
 
 abbrev pub lower-if-at : ℕ → In 6 lower-if-kinds.ps
 lower-if-at = at lower-if-kinds.ps μ-lower-if lower-if.Pre
@@ -168,11 +168,11 @@ lower-property-at = at lower-property-kinds.ps μ-lower-property lower-property.
 abbrev pub lower-property-below : ℕ → In 6 lower-property-kinds.ps
 lower-property-below = below lower-property-kinds.ps μ-lower-property lower-property.Pre
 
-abbrev pub lower-tested-at : ℕ → In 6 lower-tested-kinds.ps
-lower-tested-at = at lower-tested-kinds.ps μ-lower-tested lower-tested.Pre
+abbrev pub lower-test-at : ℕ → In 6 lower-test-kinds.ps
+lower-test-at = at lower-test-kinds.ps μ-lower-test lower-test.Pre
 
-abbrev pub lower-tested-below : ℕ → In 6 lower-tested-kinds.ps
-lower-tested-below = below lower-tested-kinds.ps μ-lower-tested lower-tested.Pre
+abbrev pub lower-test-below : ℕ → In 6 lower-test-kinds.ps
+lower-test-below = below lower-test-kinds.ps μ-lower-test lower-test.Pre
 
 abbrev pub lower-unary-at : ℕ → In 6 lower-unary-kinds.ps
 lower-unary-at = at lower-unary-kinds.ps μ-lower-unary lower-unary.Pre
