@@ -3,15 +3,16 @@
 
 A proof reaches what is known at a place by a path, as `c .before .before .if1`, and names places by `let at-emitted = c .before .before in`. An edit of the code moves
 them: a parameter more is a step more at each call. This tool reads the records of a function's places as they were before the edit and as they are now, and writes each
-path anew, by the name of the place that it leads to. Run it at the root of the repository.
+path anew: the places of the two runs are matched by their names, without the numbers. Run it at the root of the repository.
 
     move_paths.py CRATE --before                record the places as they are (before the edit)
     move_paths.py CRATE FUNCTION PROOF          after the edit: PROOF with its paths moved, printed
     move_paths.py CRATE FUNCTION PROOF --keep   the same, with the records of the last run after the edit (one run serves all functions)
 
-FUNCTION is the folder of its proof below proofs/, as `append` or `RegisterSet/take`; a member of a cycle is CYCLE:MEMBER. A need that is new gets a hole, `?`, in the
-list of answers; one that is gone is left out. A place that no longer has its name is said on standard error, and its path is left as it was.
+FUNCTION is the folder of its proof below proofs/, as `append` or `RegisterSet/take`; a member of a cycle is CYCLE:MEMBER. A need that is new, or that
+cannot be matched, gets a hole, `?`, in the list of answers; one that is gone is left out. A place that is gone is told on standard error, and the path to it is left as it was.
 """
+import difflib
 import pathlib
 import re
 import subprocess
@@ -52,45 +53,57 @@ def read(path):
     return before, needs
 
 
+def chain(before, place):
+    """The places from one back to the start, nearest first."""
+    places = []
+    while place:
+        places.append(place)
+        place = before.get(place)
+    return places
+
+
+def aligned(old, new):
+    """For each place of a chain its position in another, by their names without the numbers, which an edit shifts; None for one that is gone. Their first places are one."""
+    sort = [[re.sub(r"\d+$", "", place) for place in places] for places in (old, new)]
+    found = [None] * len(old)
+    for block in difflib.SequenceMatcher(None, *sort, autojunk=False).get_matching_blocks():
+        for k in range(block.size):
+            found[block.a + k] = block.b + k
+    found[0] = 0
+    return found
+
+
 class Mover:
+    """The paths that begin at a place: `old` before the edit, `new` now."""
+
     def __init__(self, old, new):
-        self.old, self.new = old, new
+        self.old = old
+        self.found = aligned(old, new)
 
-    def place(self, start, steps):
-        """The place that lies `steps` before another, as it was before the edit."""
-        for _ in range(steps):
-            start = self.old[start]
-        return start
-
-    def steps(self, start, place):
-        """How far a place lies before another now; None if it does not."""
-        count = 0
-        while start is not None and start != place:
-            start, count = self.new.get(start), count + 1
-        return count if start else None
+    def path(self, start, befores):
+        """How far the place that lay `befores` before one at `start` lies before it now; None if one of the two is gone."""
+        a, b = self.found[start], self.found[start + befores]
+        return None if a is None or b is None else b - a
 
     def move(self, text, known):
-        """`text` with its paths moved; `known` has the place of each name, and gets those of the lets."""
+        """`text` with its paths moved; `known` has how far each named place lies back, and gets those of the lets."""
 
         def path(m):
             name, befores = m[1], m[2].count(".before")
             if name not in known:
                 return m[0]
-            place = self.place(known[name], befores)
-            steps = self.steps(known[name], place)
+            steps = self.path(known[name], befores)
             if steps is None:
-                print(f"no place {place} before {known[name]} any more", file=sys.stderr)
+                print(f"{self.old[known[name] + befores]}, before {self.old[known[name]]}, is gone", file=sys.stderr)
                 return m[0]
             return name + " .before" * steps
 
         out, at = [], 0
         for m in LET.finditer(text):
             out.append(PATH.sub(path, text[at : m.start()]))
+            out.append(f"let {m[1]} = {PATH.sub(path, m[2] + m[3])} in")
             if m[2] in known:
-                out.append(f"let {m[1]} = {PATH.sub(path, m[2] + m[3])} in")
-                known[m[1]] = self.place(known[m[2]], m[3].count(".before"))
-            else:
-                out.append(m[0])
+                known[m[1]] = known[m[2]] + m[3].count(".before")
             at = m.end()
         out.append(PATH.sub(path, text[at:]))
         return "".join(out)
@@ -100,13 +113,23 @@ def kind(need):
     return re.sub(r"-\d+$", "", need)
 
 
+def next_other(needs):
+    """For each need the next one of another kind."""
+    found, names = {}, list(needs)
+    for k in range(len(names) - 1, -1, -1):
+        after = names[k + 1] if k + 1 < len(names) else None
+        found[names[k]] = found[after] if after and kind(after) == kind(names[k]) else after
+    return found
+
+
 def paired(old, new):
-    """For each need of now the one of before that it is. Of one kind they stand in one order; where there are more or fewer of a kind, those at one place do."""
-    pairs = {}
+    """For each need of now the one of before that it is. Of one kind they stand in one order; where there are more or fewer of a kind, those that stand before the same
+    need of another kind do."""
+    pairs, nexts = {}, (next_other(old), next_other(new))
     for sort in dict.fromkeys(map(kind, new)):
         were, are = ([need for need in needs if kind(need) == sort] for needs in (old, new))
         for need in are:
-            there = were if len(were) == len(are) else [was for was in were if old[was] == new[need]]
+            there = were if len(were) == len(are) else [was for was in were if nexts[0][was] == nexts[1][need]]
             there = [was for was in there if was not in pairs.values()]
             pairs[need] = there[0] if there else None
     return {need: pairs[need] for need in new}
@@ -137,12 +160,18 @@ def declarations(text):
 
 
 def moved(text, old, new):
-    mover = Mover(old[0], new[0])
+    pairs = paired(old[1], new[1])
+    now = {was: need for need, was in pairs.items() if was}
+
+    def answer(part, was):
+        mover = Mover(chain(old[0], old[1][was]), chain(new[0], new[1][now[was]]))
+        return mover.move(part, {"c": 0})
+
     out = []
     for part in declarations(text):
-        needs = [need for need in re.findall(r"Need-[^\s()]+", part.split("\n", 1)[0]) if need in old[1]]
+        needs = [need for need in re.findall(r"Need-[^\s()]+", part.split("\n", 1)[0]) if need in now]
         if needs:
-            out.append(mover.move(part, {"c": old[1][needs[0]]}))
+            out.append(answer(part, needs[0]))
             continue
         m = re.search(r"\b(?:tie\.spec|lts\.spec(?: \([^()]*\)| [\w.-]+){3})", part)
         if not m:
@@ -151,14 +180,14 @@ def moved(text, old, new):
         found = arguments(part, m.end())
         first = len(found) - len(old[1])  # a loop's invariant and measure stand before the answers
         begin = found[first - 1][1] if first > 0 else m.end()
-        head = mover.move(part[:begin], {p[1]: p[2] for p in PARAMETER.finditer(part[:begin])})
+        head = part[:begin]
+        for p in PARAMETER.finditer(part[:begin]):  # a function of a place: its type names the place
+            if p[2] in old[0] and p[2] in new[0]:
+                head = Mover(chain(old[0], p[2]), chain(new[0], p[2])).move(head, {p[1]: 0})
         before = dict(zip(old[1], (part[a:b] for a, b in found[first:])))
-        answers = []
-        for need, was in paired(old[1], new[1]).items():
-            answer = before.get(was, "?") if was else "?"
-            answers.append(mover.move(answer, {"c": old[1][was]}) if answer.startswith("(λ c") else answer)
-        rest = part[found[-1][1] :]
-        out.append(head + "".join("\n    " + answer for answer in answers) + rest)
+        answers = [before.get(was, "?") for was in pairs.values()]
+        answers = [answer(text, was) if text.startswith("(λ c") else text for text, was in zip(answers, pairs.values())]
+        out.append(head + "".join("\n    " + text for text in answers) + part[found[-1][1] :])
     return "".join(out)
 
 
