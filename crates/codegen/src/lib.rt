@@ -1,4 +1,6 @@
 // Lowering a tree (kaori's codegen/lower_ast.rs): the questions, the walk from the root by the mode, and the arguments patched.
+#![tactic(auto)]
+
 mod flat;
 mod lower_expression;
 mod read;

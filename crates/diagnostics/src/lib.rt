@@ -1,4 +1,6 @@
 // The refusals of document 01, by name (kaori's errors, panics and limits), and an index that may be refused.
+#![tactic(auto)]
+
 ghost use Rattle.std.specs.Prelude.{◌≡◌};
 ghost use Rattle.diagnostics.specs.Refusal.{refusal_number};
 

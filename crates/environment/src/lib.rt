@@ -1,4 +1,6 @@
 // Registers (kaori's codegen/environment.rs): the register set, the parameters' registers and the lookup of a name.
+#![tactic(auto)]
+
 ghost use Rattle.std.specs.Prelude.{◌≡◌, cond, ◌-◌, ◌/◌, ◌%◌, ◌^◌, min, eqb};
 ghost use Rattle.words.specs.Words.{words};
 ghost use Rattle.environment.specs.Registers.{word_bits, all_free, smallest_free, taken, given_back, held};

@@ -1,4 +1,6 @@
 // The functions that C calls, on numbers and byte slices. include/sewurogi.h declares them, with a pointer and a length for each slice.
+#![tactic(auto)]
+
 ghost use Rattle.std.specs.Prelude.{◌≡◌, ◌++◌};
 ghost use Rattle.std.proofs.lemmas.List.Edits.{sets};
 ghost use Rattle.words.specs.Words.{words, tail, bytes_of};

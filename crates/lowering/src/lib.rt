@@ -1,4 +1,6 @@
 // What the definition of lowering and the walk share: the state that goes by value, and where a value is to go.
+#![tactic(auto)]
+
 use environment::{Register, RegisterSet};
 
 // The eight numbers that come back, a word each.

@@ -1,4 +1,6 @@
 // `lowerlist`: prints the listing of the text on standard input.
+#![tactic(auto)]
+
 ghost use Rattle.std.specs.Prelude.{◌≡◌, List, ℕ, ◌≤◌, ◌<◌, length, take};
 ghost use Rattle.listing.specs.Text.{longest_text};
 ghost use Rattle.listing.specs.Output.{longest_listing, lowerlist};

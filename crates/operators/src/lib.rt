@@ -1,6 +1,8 @@
 // The opcode of an operator, by where its operands are: two registers (rr), a register and a constant (rk), a constant and a register (kr); and
 // whether its operands are swapped. "Greater swaps operands, not their evaluation. A constant on the left of add, multiply, equal, not-equal
 // goes right." The arms stand in the order of kaori's lower_expression.rs and lower_ast.rs.
+#![tactic(auto)]
+
 ghost use Rattle.std.specs.Prelude.{ℕ, ◌≡◌, [], ◌∷◌};
 ghost use Rattle.std.proofs.Math.Option.{some};
 ghost use Rattle.syntax.specs.declared.ops.Comparison.{Comparison};

@@ -1,4 +1,6 @@
 // The parts of the lowering (kaori's codegen/lower_ast.rs) that are not the walk itself: jumps and arguments, patched in the code, and marks.
+#![tactic(auto)]
+
 ghost use Rattle.std.specs.Prelude.{◌≡◌, cond, List, ◌++◌, ℕ, eqb};
 ghost use Rattle.words.specs.Words.{words, tail, bytes_of};
 ghost use Rattle.words.specs.Records.{appended, buffer};

@@ -1,5 +1,7 @@
 // The questions before the walk, in order: all are answered yes, or the answer is the first no, with its place. Plain comparisons are joined by `&`, and
 // `&&` stands where what follows costs more.
+#![tactic(auto)]
+
 ghost use Rattle.std.specs.Prelude.{◌≡◌, true, List, ℕ, ◌+◌, ◌*◌, ◌≤◌, ◌<◌, length, get_or, take, drop};
 ghost use Rattle.words.specs.Words.{words};
 ghost use Rattle.words.specs.Records.{capacity};

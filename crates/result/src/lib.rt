@@ -1,4 +1,6 @@
 // The eight numbers that come back from lowering: of a question that was answered no, and of what the walk answered.
+#![tactic(auto)]
+
 ghost use Rattle.std.specs.Prelude.{◌≡◌, cond, List, ℕ};
 ghost use Rattle.diagnostics.specs.Refusal.{refusal_number};
 ghost use Rattle.words.specs.Words.{words};

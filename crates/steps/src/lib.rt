@@ -1,4 +1,6 @@
 // The steps of the walk that look at no node: answers, destinations, constants, and the end of an operator.
+#![tactic(auto)]
+
 pub mod answer;
 pub mod sources;
 pub mod step;

@@ -1,4 +1,6 @@
 // Replays recorded answers: lists each text of data/answers.txt, and compares every byte with the answer recorded for it.
+#![tactic(auto)]
+
 ghost use Rattle.std.specs.Prelude.{◌≡◌, ◌≤◌, length};
 ghost use Rattle.words.specs.Records.{same_words};
 ghost use Rattle.listing.specs.Output.{lowerlist};

@@ -241,6 +241,7 @@ module _ (a : Accepted) (s : Setting a) where
       After (λ v. e ≡ returned v) (λ x. e ≡ failed x) r → now ≡ ended e → EndsWith s.operators r now
   ends_with (evaluates v) e now (worked k) h = h ∙ ap ended k
   ends_with (fails x) e now (broke k) h = h ∙ ap ended k
+  ends_with undefined e now k h = elim k [ ]
 
 -- "running its code returns the tree's value exactly when the tree has one, and otherwise ends with the tree's failure", in at most as many steps
 -- as there are instructions

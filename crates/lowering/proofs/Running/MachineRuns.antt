@@ -28,6 +28,7 @@ pub after_bind : {F A B : Type 0} (r : Evaluation F A) (k : A → Evaluation F B
     After K L (and_then r k) → After (λ a. After K L (k a)) L r
 after_bind (evaluates a) k h = worked h
 after_bind (fails x) k (broke l) = broke l
+after_bind undefined k h = elim h [ ]
 
 pub ask_bind : {F A B : Type 0} (r : Evaluation F A) (k : A → Evaluation F B) {K : B → Type 0} → IfAny K (and_then r k) → IfAny (λ a. IfAny K (k a)) r
 ask_bind (evaluates a) k h = met h
@@ -73,6 +74,8 @@ pub after_pair : {F A B C : Type 0} (r : Evaluation F A) (s : Evaluation F B) (k
 after_pair (evaluates a) (evaluates b) k h = worked h
 after_pair (evaluates a) (fails x) k (broke l) = broke l
 after_pair (fails x) s k (broke l) = broke l
+after_pair (evaluates a) undefined k h = elim h [ ]
+after_pair undefined s k h = elim h [ ]
 
 pub ask_pair : {F A B : Type 0} {P : A → B → Type 0} (r : Evaluation F A) (s : Evaluation F B) →
     IfAny (λ a. IfAny (λ b. P a b) s) r → IfAny (λ v. P v.0 v.1) (pair_of r s)

@@ -156,12 +156,12 @@ module _ (nodes : List ℕ) (root mode : ℕ) (list names code constants marks :
       mark_count nodes root mode list names code constants marks ≡ marks_of m → Within nodes root mode list names code constants marks (lowered r m)
   unfolding begin
   grown_within r m g e f k = record {
-    code_length = g.in-code.same_length;
+    code_length = g.in_code.same_length;
     constants_length = g.in_constants.same_length;
     marks_length = g.in_marks.same_length;
-    code_past = λ i h. g.in-code.past i (rw e at h);
+    code_past = λ i h. g.in_code.past i (rw e at h);
     constants_past = λ i h. g.in_constants.past i (rw f at h);
-    code_fits = rw (e, sym (same_capacity instruction_width m.code code g.in-code.same_length)) (g.in-code.fits (omega arith));
+    code_fits = rw (e, sym (same_capacity instruction_width m.code code g.in_code.same_length)) (g.in_code.fits (omega arith));
     code_few = rw e (g.code_few (omega arith));
     constants_fit = rw (f, sym (same_capacity constant_width m.constants constants g.in_constants.same_length)) (g.in_constants.fits (omega arith));
     marks_past = λ i h. g.in_marks.past i (omega (arith, k));

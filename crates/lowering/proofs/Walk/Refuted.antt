@@ -210,13 +210,16 @@ smallest_refuted s k = false≢true (sym (all_free_lem 0) ∙ k.smaller_held 0 (
 x_nil : (k : ℕ) → Reaches sum_of_names 0 k → constant_of_node (node sum_of_names k) ≡ some Operand.Nil → ⊥
 unfolding node_at node_word children constant_of_node
 x_nil k here e = let z : ◌≡◌ {A = ℕ} 0 1 = cc in omega arith
+x_nil k (below n r) e = elim n [ ]
 
 y_nil : (k : ℕ) → Reaches sum_of_names 1 k → constant_of_node (node sum_of_names k) ≡ some Operand.Nil → ⊥
 unfolding node_at node_word children constant_of_node
 y_nil k here e = let z : ◌≡◌ {A = ℕ} 0 1 = cc in omega arith
+y_nil k (below n r) e = elim n [ ]
 
 right_nil : (i k : ℕ) → Named i (1 ∷ []) → Reaches sum_of_names i k → constant_of_node (node sum_of_names k) ≡ some Operand.Nil → ⊥
 right_nil i k first r e = y_nil k r e
+right_nil i k (later n) r e = elim n [ ]
 
 operand_nil : (i k : ℕ) → Named i (0 ∷ 1 ∷ []) → Reaches sum_of_names i k → constant_of_node (node sum_of_names k) ≡ some Operand.Nil → ⊥
 operand_nil i k first r e = x_nil k r e

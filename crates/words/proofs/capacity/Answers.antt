@@ -1,0 +1,14 @@
+use Rattle.std.proofs.Common.{rules, ◌≡◌, ◌+◌, ◌<◌, ◌≤◌, length, get_or, set, take, drop, ℕ, ◌-◌, ◌*◌, ◌/◌, ◌%◌, Bool, true, false, nat_eq, nat_lt, List, [], ◌∷◌, ◌++◌, bit_and, bit_or, Fits, w8, w32, w64, Bor, MutBor}
+use Rattle.std.proofs.lemmas.List.Edits.{sets}
+use Rattle.words.specs.Words.{byte_end, words, tail}
+use Rattle.words.specs.Records.{capacity, same_words, position, last_position, append, appended, buffer}
+use Rattle.diagnostics.specs.declared.Refusal.{Refusal}
+use Rattle.words.proofs.capacity.Goals as goal
+
+-- src/lib.rt:110:1
+pub returns_then_width_eq0 : goal.returns-then-width-eq0
+returns_then_width_eq0 c = ?
+
+-- src/lib.rt:110:1
+pub returns_else_width_eq0 : goal.returns-else-width-eq0
+returns_else_width_eq0 c = ?
