@@ -43,7 +43,7 @@ use words::{FULL, counted, word};
 
 // A node as an expression, by its kind. A literal is LITERAL, and nothing is done. The arms that go deep are asked for first: the compiler inlines what it
 // takes for frequent.
-#[cycle(arguments_entry_fuse_logical_lower_binary_lower_block_lower_call_lower_expression_lower_if_lower_jump_if_false_lower_map_lower_materializing_lower_unary_property_test)]
+#[cycle(walk)]
 fn lower_expression(
     nodes: &[u8],
     list: &[u8],
@@ -92,7 +92,7 @@ fn lower_expression(
 }
 
 // A child that was peeked at: it is done, or the node that it comes to is walked, from the state before the peek.
-#[cycle(arguments_entry_fuse_logical_lower_binary_lower_block_lower_call_lower_expression_lower_if_lower_jump_if_false_lower_map_lower_materializing_lower_unary_property_test)]
+#[cycle(walk)]
 pub(crate) fn lower_materializing(
     nodes: &[u8],
     list: &[u8],
@@ -155,7 +155,7 @@ fn lower_name(
 }
 
 // Binary: destination first, left, right, then constants pooled, one instruction. Gives back what the operands held.
-#[cycle(arguments_entry_fuse_logical_lower_binary_lower_block_lower_call_lower_expression_lower_if_lower_jump_if_false_lower_map_lower_materializing_lower_unary_property_test)]
+#[cycle(walk)]
 fn lower_binary(
     nodes: &[u8],
     list: &[u8],
@@ -275,7 +275,7 @@ fn only_opcode(nodes: &[u8], node: u32) -> u32
 }
 
 // Unary, not: destination, operand, one instruction. Gives back what the operand held.
-#[cycle(arguments_entry_fuse_logical_lower_binary_lower_block_lower_call_lower_expression_lower_if_lower_jump_if_false_lower_map_lower_materializing_lower_unary_property_test)]
+#[cycle(walk)]
 fn lower_unary(
     nodes: &[u8],
     list: &[u8],
@@ -330,7 +330,7 @@ fn logical_jump(nodes: &[u8], node: u32) -> u32
 }
 
 // And, or: left into the destination, jump, right into the same. Gives nothing back.
-#[cycle(arguments_entry_fuse_logical_lower_binary_lower_block_lower_call_lower_expression_lower_if_lower_jump_if_false_lower_map_lower_materializing_lower_unary_property_test)]
+#[cycle(walk)]
 fn logical(
     nodes: &[u8],
     list: &[u8],
@@ -377,7 +377,7 @@ fn logical(
 }
 
 // If: condition, destination, then, jump, else. What the condition holds stays held.
-#[cycle(arguments_entry_fuse_logical_lower_binary_lower_block_lower_call_lower_expression_lower_if_lower_jump_if_false_lower_map_lower_materializing_lower_unary_property_test)]
+#[cycle(walk)]
 fn lower_if(
     nodes: &[u8],
     list: &[u8],
@@ -434,7 +434,7 @@ fn lower_if(
 }
 
 // Block: destination, then the tail or nil.
-#[cycle(arguments_entry_fuse_logical_lower_binary_lower_block_lower_call_lower_expression_lower_if_lower_jump_if_false_lower_map_lower_materializing_lower_unary_property_test)]
+#[cycle(walk)]
 fn lower_block(
     nodes: &[u8],
     list: &[u8],
@@ -476,7 +476,7 @@ fn lower_block(
 }
 
 // Call: the arguments; then destination, callee, Call. Gives back what the callee held.
-#[cycle(arguments_entry_fuse_logical_lower_binary_lower_block_lower_call_lower_expression_lower_if_lower_jump_if_false_lower_map_lower_materializing_lower_unary_property_test)]
+#[cycle(walk)]
 fn lower_call(
     nodes: &[u8],
     list: &[u8],
@@ -531,7 +531,7 @@ fn lower_call(
 }
 
 // The arguments of a call: argument i into local i, and the last instruction marked.
-#[cycle(arguments_entry_fuse_logical_lower_binary_lower_block_lower_call_lower_expression_lower_if_lower_jump_if_false_lower_map_lower_materializing_lower_unary_property_test)]
+#[cycle(walk)]
 fn arguments(
     nodes: &[u8],
     list: &[u8],
@@ -574,7 +574,7 @@ fn arguments(
 }
 
 // Property: destination, object, key pooled. Gives back what the object held.
-#[cycle(arguments_entry_fuse_logical_lower_binary_lower_block_lower_call_lower_expression_lower_if_lower_jump_if_false_lower_map_lower_materializing_lower_unary_property_test)]
+#[cycle(walk)]
 fn property(
     nodes: &[u8],
     list: &[u8],
@@ -629,7 +629,7 @@ fn property(
 }
 
 // Map: CreateMap, then entry by entry. What the entries hold stays held.
-#[cycle(arguments_entry_fuse_logical_lower_binary_lower_block_lower_call_lower_expression_lower_if_lower_jump_if_false_lower_map_lower_materializing_lower_unary_property_test)]
+#[cycle(walk)]
 fn lower_map(
     nodes: &[u8],
     list: &[u8],
@@ -699,7 +699,7 @@ fn lower_map(
 
 // One entry that was left to the walk, so it has a value. A key that is a name or a literal is pooled after the value is lowered; any other key is lowered
 // before its value.
-#[cycle(arguments_entry_fuse_logical_lower_binary_lower_block_lower_call_lower_expression_lower_if_lower_jump_if_false_lower_map_lower_materializing_lower_unary_property_test)]
+#[cycle(walk)]
 fn entry(
     nodes: &[u8],
     list: &[u8],
@@ -782,7 +782,7 @@ fn set_property(
 }
 
 // A node as a condition: the place of the jump that is taken where it is false. What it holds stays held.
-#[cycle(arguments_entry_fuse_logical_lower_binary_lower_block_lower_call_lower_expression_lower_if_lower_jump_if_false_lower_map_lower_materializing_lower_unary_property_test)]
+#[cycle(walk)]
 fn lower_jump_if_false(
     nodes: &[u8],
     list: &[u8],
@@ -847,7 +847,7 @@ fn is_compared(nodes: &[u8], node: u32) -> bool
 }
 
 // A node in a register, then JumpIfFalse or JumpIfTrue. Its place is the answer.
-#[cycle(arguments_entry_fuse_logical_lower_binary_lower_block_lower_call_lower_expression_lower_if_lower_jump_if_false_lower_map_lower_materializing_lower_unary_property_test)]
+#[cycle(walk)]
 fn test(
     nodes: &[u8],
     list: &[u8],
@@ -883,7 +883,7 @@ fn test(
 }
 
 // Left, right, constants pooled, one fused jump; two literals are tested like anything else. No destination is taken, nothing is given back.
-#[cycle(arguments_entry_fuse_logical_lower_binary_lower_block_lower_call_lower_expression_lower_if_lower_jump_if_false_lower_map_lower_materializing_lower_unary_property_test)]
+#[cycle(walk)]
 fn fuse(
     nodes: &[u8],
     list: &[u8],
