@@ -513,7 +513,7 @@ pub lower_expression-lower_map-requires : goal.lower_expression-lower_map-requir
 lower_expression-lower_map-requires t c =
     let over = past c.node_word-kind.result c.if-kind.false c.if-kind-le-LOGICAL_NOT.false in
     let known = kind_word (checked_at c.requires.0.0 c.args.node) in
-    (omega (arith, c.decreases), (c.requires, omega (arith, c.node_word-kind.ensures, over, c.in_default.in_default-own.rest, known)))
+    (omega (arith, c.decreases), (c.requires, omega (arith, c.node_word-kind.ensures, over, known)))
 
 -- ---- if
 
