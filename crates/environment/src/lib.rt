@@ -19,14 +19,14 @@ const BITS: u32 = 64;
 const ALL_FREE: u64 = 0xffff_ffff_ffff_ffff;
 
 // A temporary is given back once its value has been read. A local, which is a parameter or the destination of an argument, never is.
-#[derive(Drop)]
+#[derive(Clone, Copy)]
 pub enum Register {
     Temp(u32),
     Local(u32),
 }
 
 // The 256 registers: a set bit is a free one, bit r % 64 of word r / 64. The frame size is one more than the highest register taken.
-#[derive(Drop)]
+#[derive(Clone, Copy)]
 pub struct RegisterSet {
     pub words: [u64; 4],
     pub frame_size: u32,

@@ -11,14 +11,14 @@ use lowering::State;
 use words::WORD_END;
 
 // The state afterwards, and the answer.
-#[derive(Drop)]
+#[derive(Clone, Copy)]
 pub struct AnswerAndState {
     pub state: State,
     pub answer: u64,
 }
 
 // The counts afterwards, and the answer, of a step that takes and gives back no register.
-#[derive(Drop)]
+#[derive(Clone, Copy)]
 pub struct AnswerAndCounts {
     pub instructions: u32,
     pub constants: u32,
