@@ -212,7 +212,7 @@ module _ (lifetimes : Lifetimes) (nodes_at list_at names_at code_at constants_at
           (frame.frame-size nodes root mode list names (words code) (words constants) (words marks))
 
       -- Given back once: whatever comes back, the numbers and words are those of the lowering whose give-back stops where the register is not held.
-      pub given_back_once : left ≡ definition.lowerBy free_held nodes root mode list names (words code) (words constants) (words marks)
+      pub given_back_once : left ≡ definition.lower_by free_held nodes root mode list names (words code) (words constants) (words marks)
       given_back_once = exact ∙ sym (came.given-back-once nodes root mode list names (words code) (words constants) (words marks))
 
       -- Nothing is cut: every field of every instruction in the code fits, and the constants are at most 4,096. Pool: no two of them are the same.
