@@ -105,14 +105,16 @@ def declared(root):
     return {n for n in names if turns(n)}, {n for n in fields if turns(n)}
 
 
-def turned(text, names, fields, kept, where):
+def turned(text, names, fields, kept):
+    aliases = set(re.findall(r"(?m)^[ \t]*use \S+ as ([a-z]\w*)[ \t]*$", text))
+
     def one(it):
         word, before = it[0], text[: it.start()]
         if word in kept or before.endswith("»") or word not in names | fields:
             return word
         if before.endswith(".") and not before.endswith((" .", "..")):
             head = re.search(r"([^\s(){};,@\"]*)\.$", before)[1]
-            if word not in fields and not re.fullmatch(r"(?:\w+\.)*[A-Z]\w*", head):
+            if word not in fields and head not in aliases and not re.fullmatch(r"(?:\w+\.)*[A-Z]\w*", head):
                 return word
             if head.startswith(("tie", "goal", "given", "need")):
                 return word
@@ -124,7 +126,7 @@ def turned(text, names, fields, kept, where):
         pieces.append((it[0], True))
         at = it.end()
     pieces.append((text[at:], False))
-    out, whole = [], text
+    out = []
     for piece, is_comment in pieces:
         text = piece
         if is_comment:
@@ -174,7 +176,7 @@ def main(argv):
     for path in files(root, (".antt", ".rt", ".edit")):
         old = read(path)
         if path.endswith(".antt"):
-            new = turned(old, names, fields, of_library(old, crates), path)
+            new = turned(old, names, fields, of_library(old, crates))
         elif path.endswith(".rt"):
             kept, new, at = of_library(old, crates), "", 0
             for a, b, head in clauses(old):
@@ -182,13 +184,13 @@ def main(argv):
                 if head.startswith("ghost use") and not ours(head.split()[2].rstrip("{"), crates):
                     new += old[a:b]
                 else:
-                    new += turned(old[a:b], names, fields, kept, path)
+                    new += turned(old[a:b], names, fields, kept)
                 at = b
             new += old[at:]
         else:
             is_antt = re.search(r"(?m)^file: specs/", old)
             new = "\n".join(
-                turned(line, names, fields, set(), path) if re.match(r"(old|new): ", line) and (is_antt or re.search(r"requires|ensures|≡", line)) else line
+                turned(line, names, fields, set()) if re.match(r"(old|new): ", line) and (is_antt or re.search(r"requires|ensures|≡", line)) else line
                 for line in old.split("\n")
             )
         if new != old:
