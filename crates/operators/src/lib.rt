@@ -15,7 +15,7 @@ use runtime::opcode;
 use syntax::operator;
 
 // Greater swaps the operands.
-#[tactic(auto, using(crate::proofs::Words::past, syntax::proofs::Tables::five_past), unfolding(runtime::specs::Instruction::words_of, syntax::specs::Ops::binary_op, lowering::specs::Operators::binary_rr, crate::specs::Opcodes::swaps))]
+#[tactic(auto, using(crate::proofs::Words::past), unfolding(runtime::specs::Instruction::words_of, syntax::specs::Ops::binary_op, lowering::specs::Operators::binary_rr, crate::specs::Opcodes::swaps))]
 pub fn binary_rr(operator: u32) -> u32
     ensures { (d a b : ℕ) → words_of (binary_rr (binary_op operator) d a b)
         ≡ result ∷ d ∷ first_of (swaps (binary_op operator)) a b ∷ second_of (swaps (binary_op operator)) a b ∷ [] }
@@ -34,7 +34,7 @@ pub fn binary_rr(operator: u32) -> u32
 }
 
 // Greater swaps the operands: the constant comes first.
-#[tactic(auto, using(crate::proofs::Words::past, syntax::proofs::Tables::five_past), unfolding(runtime::specs::Instruction::words_of, syntax::specs::Ops::binary_op, lowering::specs::Operators::binary_rk, crate::specs::Opcodes::swaps))]
+#[tactic(auto, using(crate::proofs::Words::past), unfolding(runtime::specs::Instruction::words_of, syntax::specs::Ops::binary_op, lowering::specs::Operators::binary_rk, crate::specs::Opcodes::swaps))]
 pub fn binary_rk(operator: u32) -> u32
     ensures { (d a k : ℕ) → words_of (binary_rk (binary_op operator) d a k)
         ≡ result ∷ d ∷ first_of (swaps (binary_op operator)) a k ∷ second_of (swaps (binary_op operator)) a k ∷ [] }
@@ -55,7 +55,7 @@ pub fn binary_rk(operator: u32) -> u32
 }
 
 // A constant on the left of add, multiply, equal, not-equal goes right.
-#[tactic(auto, using(crate::proofs::Words::past, syntax::proofs::Tables::five_past), unfolding(runtime::specs::Instruction::words_of, syntax::specs::Ops::binary_op, lowering::specs::Operators::binary_kr, crate::specs::Opcodes::swaps_kr))]
+#[tactic(auto, using(crate::proofs::Words::past), unfolding(runtime::specs::Instruction::words_of, syntax::specs::Ops::binary_op, lowering::specs::Operators::binary_kr, crate::specs::Opcodes::swaps_kr))]
 pub fn binary_kr(operator: u32) -> u32
     ensures { (d k b : ℕ) → words_of (binary_kr (binary_op operator) d k b)
         ≡ result ∷ d ∷ first_of (swaps_kr (binary_op operator)) k b ∷ second_of (swaps_kr (binary_op operator)) k b ∷ [] }
@@ -117,7 +117,7 @@ pub fn is_comparison(operator: u32) -> bool
 }
 
 // The jump that is taken where the comparison gives `sense`.
-#[tactic(auto, using(crate::proofs::Words::past, crate::proofs::Words::first_comparison, crate::proofs::Words::same), unfolding(runtime::specs::Instruction::words_of, syntax::specs::Ops::binary_op, lowering::specs::Operators::comparison, lowering::specs::Operators::jump_rr, crate::specs::Opcodes::jump_swaps))]
+#[tactic(auto, using(crate::proofs::Words::past, crate::proofs::Words::first_comparison), unfolding(runtime::specs::Instruction::words_of, syntax::specs::Ops::binary_op, lowering::specs::Operators::comparison, lowering::specs::Operators::jump_rr, crate::specs::Opcodes::jump_swaps))]
 pub fn jump_rr(sense: bool, operator: u32) -> u32
     ensures { (c : Comparison) → comparison (binary_op operator) ≡ some c → (a b : ℕ)
         → words_of (jump_rr sense c a b) ≡ result ∷ first_of (jump_swaps sense c) a b ∷ second_of (jump_swaps sense c) a b ∷ 0 ∷ [] }
@@ -140,7 +140,7 @@ pub fn jump_rr(sense: bool, operator: u32) -> u32
 }
 
 // The same of a register and a constant, in this order.
-#[tactic(auto, using(crate::proofs::Words::past, crate::proofs::Words::first_comparison, crate::proofs::Words::same), unfolding(runtime::specs::Instruction::words_of, syntax::specs::Ops::binary_op, lowering::specs::Operators::comparison, lowering::specs::Operators::jump_rk))]
+#[tactic(auto, using(crate::proofs::Words::past, crate::proofs::Words::first_comparison), unfolding(runtime::specs::Instruction::words_of, syntax::specs::Ops::binary_op, lowering::specs::Operators::comparison, lowering::specs::Operators::jump_rk))]
 pub fn jump_rk(sense: bool, operator: u32) -> u32
     ensures { (c : Comparison) → comparison (binary_op operator) ≡ some c → (a k : ℕ) → words_of (jump_rk sense c a k) ≡ result ∷ a ∷ k ∷ 0 ∷ [] }
 {
@@ -166,7 +166,7 @@ pub fn jump_rk(sense: bool, operator: u32) -> u32
 }
 
 // The same of a constant and a register; their fields, too, are the register and then the constant.
-#[tactic(auto, using(crate::proofs::Words::past, crate::proofs::Words::first_comparison, crate::proofs::Words::same), unfolding(runtime::specs::Instruction::words_of, syntax::specs::Ops::binary_op, lowering::specs::Operators::comparison, lowering::specs::Operators::jump_kr))]
+#[tactic(auto, using(crate::proofs::Words::past, crate::proofs::Words::first_comparison), unfolding(runtime::specs::Instruction::words_of, syntax::specs::Ops::binary_op, lowering::specs::Operators::comparison, lowering::specs::Operators::jump_kr))]
 pub fn jump_kr(sense: bool, operator: u32) -> u32
     ensures { (c : Comparison) → comparison (binary_op operator) ≡ some c → (k b : ℕ) → words_of (jump_kr sense c k b) ≡ result ∷ b ∷ k ∷ 0 ∷ [] }
 {
@@ -192,7 +192,7 @@ pub fn jump_kr(sense: bool, operator: u32) -> u32
 }
 
 // Whether the operands of jump_rr are swapped.
-#[tactic(auto, using(crate::proofs::Words::past, crate::proofs::Words::first_comparison, crate::proofs::Words::same), unfolding(syntax::specs::Ops::binary_op, lowering::specs::Operators::comparison, crate::specs::Opcodes::jump_swaps))]
+#[tactic(auto, using(crate::proofs::Words::past, crate::proofs::Words::first_comparison), unfolding(syntax::specs::Ops::binary_op, lowering::specs::Operators::comparison, crate::specs::Opcodes::jump_swaps))]
 pub fn jump_swaps(sense: bool, operator: u32) -> bool
     ensures { (c : Comparison) → comparison (binary_op operator) ≡ some c → result ≡ jump_swaps sense c }
 {
