@@ -3,22 +3,21 @@ use Prim.Native.Nat.{ℕ, zero, suc, ◌*◌, ◌/◌, ◌≤◌, ◌<◌}
 use native.Mathlib.Omega.{arith}
 use mathlib.Core.Path.{◌≡◌, refl, sym, ◌∙◌, ap}
 use mathlib.Core.Logic.{◌⊎◌, inl, inr}
-use mathlib.Core.Bool.{Bool, true, false, cond}
-use mathlib.Core.List.{List, [], ◌∷◌, ◌++◌}
+use mathlib.Core.Bool.{Bool, true, false}
+use mathlib.Core.List.{List, ◌++◌}
 use lib.Dec.{leb}
-use lib.ListN.{length, get_or, take, drop, get_or-eq_default}
+use lib.ListN.{length, get_or, take, drop}
 use borrow.Author.Tests.{leb-true, ltb-true}
 use Rattle.words.specs.Words.{words, tail, bytes_of}
 use Rattle.words.proofs.Words.{length_words, bytes_words}
 use Rattle.diagnostics.specs.declared.Refusal.{Refusal}
-use Rattle.diagnostics.specs.Refusal.{refusal_number}
 use Rattle.environment.specs.declared.RegisterSet.{RegisterSet}
 use Rattle.environment.specs.Environment.{parameters}
 use Rattle.lowering.specs.Checked.{Checked}
 use Rattle.patch.specs.declared.Patched.{Patched}
 use Rattle.patch.specs.Arguments.{seen_done}
 use Rattle.lowering.specs.declared.State.{State}
-use Rattle.lowering.specs.Tree.{Tree, tree_of, span_start, span_end}
+use Rattle.lowering.specs.Tree.{Tree, tree_of}
 use Rattle.lowering.specs.Questions.{question2, question8, passed, refused, questions}
 use Rattle.lowering.specs.Walk.{Made, made, Outcome, ends, stops, bind, ret, error}
 use Rattle.lowering.specs.Steps.{free_temp, patch_marks}
@@ -26,7 +25,7 @@ use Rattle.lowering.specs.Result as definition
 use Rattle.lowering.proofs.Questions.Checked.{and_right, questions_passed}
 use Rattle.lowering.proofs.Bound.Lowering.{jump_false_at, jump_true_at}
 use Rattle.lowering.proofs.Destinations.{patch_refusals}
-use Rattle.steps.specs.Answers.{place_at, refusal_at, refusal_of, names_node, error_at, settle, settled, seen, is_refusal, value_of, number_of_refusal, word_end}
+use Rattle.steps.specs.Answers.{place_at, refusal_at, names_node, error_at, settled, seen, is_refusal, word_end}
 use Rattle.steps.proofs.Chains.{seen_word, seen_refusal}
 use Rattle.codegen.specs.Ready.{Ready}
 use Rattle.result.specs.Numbers.{refused_result}

@@ -161,6 +161,7 @@ fn name_into(
 }
 
 // Whether two nodes are literals or names, and not both literals.
+#[tactic(auto, unfolding(crate::specs::Flat::are_leaves))]
 fn are_leaves(nodes: &[u8], left: u32, right: u32) -> bool
     requires { InArena nodes.now left × InArena nodes.now right }
     ensures { result ≡ are_leaves nodes.now left right }
@@ -513,6 +514,7 @@ fn value_or_key(key: u32, value: u32) -> u32
 }
 
 // A key that is pooled: a literal, or the name itself as a string.
+#[tactic(auto, using(crate::proofs::Reading::node_other), unfolding(crate::specs::Kinds::key_operand, syntax::specs::Ast::node_at))]
 pub(crate) fn key_operand(nodes: &[u8], key: u32) -> Operand
     requires { InArena nodes.now key }
     ensures { result ≡ key_operand (node_at (words nodes.now) key) }
@@ -523,6 +525,7 @@ pub(crate) fn key_operand(nodes: &[u8], key: u32) -> Operand
     literal(nodes, key)
 }
 
+#[tactic(auto, unfolding(crate::specs::Kinds::set_opcode))]
 pub(crate) fn set_opcode(src1: u32, src2: u32) -> u32
     ensures { result ≡ set_opcode src1 src2 }
 {
