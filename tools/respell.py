@@ -23,6 +23,12 @@ OTHER = {
     # What would fall together with another name in its file, each with its own.
     "bothConstant": "are_constants",
     "isDigit": "is_digit_byte",
+    "thenBranch": "then_branch",
+    "elseBranch": "else_branch",
+    "notEqual": "not_equal",
+    "goodJ": "good_j",
+    "no-else": "without_else",
+    "most-held": "held_most",
     "is-nan": "is_nan_lem",
 }
 STAY = set()
