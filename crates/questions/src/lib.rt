@@ -154,7 +154,7 @@ fn entries_below(list: &[u8], i: u32, first: u32, count: u32) -> bool
 }
 
 // 7: whether every node that node i names is lower than itself.
-#[tactic(auto, using(crate::proofs::Below::below_one, crate::proofs::Below::below_two, crate::proofs::Below::below_two_more, crate::proofs::Tables::call_inside, crate::proofs::Tables::map_inside, crate::proofs::Tables::other_names_none), unfolding(lowering::specs::Tree::children, lowering::specs::Questions::all_below))]
+#[tactic(auto, using(crate::proofs::Below::below_one, crate::proofs::Below::below_two, crate::proofs::Below::below_two_more, crate::proofs::Tables::call_inside, crate::proofs::Tables::map_inside), unfolding(lowering::specs::Tree::children, lowering::specs::Questions::all_below))]
 fn children_below(list: &[u8], i: u32, kind: u32, a: u32, b: u32, c: u32) -> bool
     requires { question6 (length (words list.now)) kind a b c ≡ true }
     ensures { result ≡ all_below i (children (words list.now) (get_or node_kinds kind (λ x y z. Node.Nil) a b c)) }
