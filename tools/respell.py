@@ -106,9 +106,9 @@ def declared(root):
     # A lemma that would have a definition's name gets _lem, and so does any name with a dash that would meet another.
     plain_ones = {n for n in names | fields if plain(n) == n} | {plain(n) for n in names | fields if "-" not in n}
     for n in names | fields:
-        if "-" in n and turns(n) and plain(n) in plain_ones:
+        if "-" in n and n not in OTHER and turns(n) and plain(n) in plain_ones:
             OTHER[n] = plain(n) + "_lem"
-    return {n for n in names if turns(n)}, {n for n in fields if turns(n)}
+    return {n for n in names | set(OTHER) if turns(n)}, {n for n in fields if turns(n)}
 
 
 def turned(text, names, fields, kept):
