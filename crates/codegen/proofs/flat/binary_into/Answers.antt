@@ -1,16 +1,11 @@
 -- `codegen::flat::binary_into` meets its contract: its do-block, a step a line.
-use Rattle.std.proofs.Common.{refl, sym, ◌∙◌, inl, arith}
-use Rattle.diagnostics.specs.declared.Refusal.{Refusal}
+use Rattle.std.proofs.Common.{refl, sym, ◌∙◌, arith}
 use Rattle.steps.specs.Answers.{operand_at}
-use Rattle.steps.proofs.Words.{refusal_start_lem}
 use Rattle.codegen.proofs.FlatNodes.{needing_none, needing_given, given_operand, binary_of, stop_leaf, then_leaf, left_leaf, right_leaf, not_both, binary_leaves}
 use Rattle.codegen.proofs.flat.binary_into.Goals as goal
 
 pub returns-then-d-eq-NONE-clause-step : goal.returns-then-d-eq-NONE-clause-step
 returns-then-d-eq-NONE-clause-step c = rw (c.left_alone-then-d-eq-NONE.ensures, c.refusal_at.ensures) (λ list rs n m checked h. needing_none _ _ _ _ (operand_at _) c.if-d-eq-NONE.true)
-
-pub returns-then-d-eq-NONE-clause-word : goal.returns-then-d-eq-NONE-clause-word
-returns-then-d-eq-NONE-clause-word c = rw (c.left_alone-then-d-eq-NONE.ensures, c.refusal_at.ensures) (λ h. inl (refusal_start_lem Refusal.Registers 0))
 
 pub returns-then-src1-clause-step : goal.returns-then-src1-clause-step
 returns-then-src1-clause-step c =
@@ -19,9 +14,6 @@ returns-then-src1-clause-step c =
     needing_given _ _ _ c.if-d-eq-NONE.false
     (binary_of _ _ _ _ _ c.requires.1.0 refl c.node_word-left.ensures c.node_word-right.ensures _ checked _
     (stop_leaf _ _ _ (c.leaf_operand-src1.ensures.name, c.leaf_operand-src1.ensures.literal) _ _ (operand_at _) c.if-src1.true (omega arith))))
-
-pub returns-then-src1-clause-word : goal.returns-then-src1-clause-word
-returns-then-src1-clause-word c = rw (c.left_alone-then-src1.ensures, c.refusal_at-then-src1.ensures) (λ h. inl (refusal_start_lem Refusal.Undeclared _))
 
 pub returns-then-src2-clause-step : goal.returns-then-src2-clause-step
 returns-then-src2-clause-step c =
@@ -32,9 +24,6 @@ returns-then-src2-clause-step c =
     (binary_of _ _ _ _ _ c.requires.1.0 refl c.node_word-left.ensures c.node_word-right.ensures _ checked _
     (then_leaf _ _ _ (c.leaf_operand-src1.ensures.name, c.leaf_operand-src1.ensures.literal) _ _ (left_leaf _ _ _ leaves) c.if-src1.false
     (stop_leaf _ _ _ (c.leaf_operand-src2.ensures.name, c.leaf_operand-src2.ensures.literal) _ _ (operand_at _) c.if-src2.true (omega arith)))))
-
-pub returns-then-src2-clause-word : goal.returns-then-src2-clause-word
-returns-then-src2-clause-word c = rw (c.left_alone-then-src2.ensures, c.refusal_at-then-src2.ensures) (λ h. inl (refusal_start_lem Refusal.Undeclared _))
 
 pub returns-clause-step : goal.returns-clause-step
 returns-clause-step c =

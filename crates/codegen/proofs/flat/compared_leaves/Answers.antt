@@ -1,21 +1,9 @@
 -- `codegen::flat::compared_leaves` meets its contract: its do-block, a step a line.
-use Rattle.std.proofs.Common.{sym, ◌∙◌, true≢false, arith}
-use Rattle.diagnostics.specs.declared.Refusal.{Refusal}
+use Rattle.std.proofs.Common.{sym, ◌∙◌, arith}
 use Rattle.operators.proofs.Compares.{compares_some}
 use Rattle.steps.specs.Answers.{place_at}
-use Rattle.steps.proofs.Words.{is_inner_refusal, is_inner_inner}
-use Rattle.codegen.proofs.FlatNodes.{compared_of, stop_leaf, then_leaf, left_leaf, right_leaf, not_both, fused_leaves, no_inner}
+use Rattle.codegen.proofs.FlatNodes.{compared_of, stop_leaf, then_leaf, left_leaf, right_leaf, not_both, fused_leaves}
 use Rattle.codegen.proofs.flat.compared_leaves.Goals as goal
-
-pub returns-then-not-is_comparison-clause-step : goal.returns-then-not-is_comparison-clause-step
-returns-then-not-is_comparison-clause-step c =
-    rw (c.left_alone.ensures, c.inner.ensures)
-    (λ list rs n m checked h. absurd (true≢false (sym (is_inner_inner _ (omega arith)) ∙ h)))
-
-pub returns-then-not-are_leaves-clause-step : goal.returns-then-not-are_leaves-clause-step
-returns-then-not-are_leaves-clause-step c =
-    rw (c.left_alone-then-not-are_leaves.ensures, c.inner-then-not-are_leaves.ensures)
-    (λ list rs n m checked h. absurd (true≢false (sym (is_inner_inner _ (omega arith)) ∙ h)))
 
 pub returns-then-src1-clause-step : goal.returns-then-src1-clause-step
 returns-then-src1-clause-step c =
@@ -24,11 +12,6 @@ returns-then-src1-clause-step c =
     (λ list rs n m checked h.
     compared_of _ _ _ _ _ c.requires.1 c.node_word-operator.ensures c.node_word-left.ensures c.node_word-right.ensures _ _ _ _ compares.0 compares.1
     (stop_leaf _ _ _ (c.leaf_operand-src1.ensures.name, c.leaf_operand-src1.ensures.literal) _ _ (λ w. place_at w) c.if-src1.true (omega arith)))
-
-pub returns-then-src1-clause-inner : goal.returns-then-src1-clause-inner
-returns-then-src1-clause-inner c =
-    rw (c.left_alone-then-src1.ensures, c.refusal_at.ensures)
-    (λ h. absurd (true≢false (sym h ∙ is_inner_refusal Refusal.Undeclared _)))
 
 pub returns-then-src2-clause-step : goal.returns-then-src2-clause-step
 returns-then-src2-clause-step c =
@@ -40,11 +23,6 @@ returns-then-src2-clause-step c =
     (then_leaf _ _ _ (c.leaf_operand-src1.ensures.name, c.leaf_operand-src1.ensures.literal) _ _ (left_leaf _ _ _ leaves) c.if-src1.false
     (stop_leaf _ _ _ (c.leaf_operand-src2.ensures.name, c.leaf_operand-src2.ensures.literal) _ _ (λ w. place_at w) c.if-src2.true (omega arith))))
 
-pub returns-then-src2-clause-inner : goal.returns-then-src2-clause-inner
-returns-then-src2-clause-inner c =
-    rw (c.left_alone-then-src2.ensures, c.refusal_at-then-src2.ensures)
-    (λ h. absurd (true≢false (sym h ∙ is_inner_refusal Refusal.Undeclared _)))
-
 pub returns-clause-step : goal.returns-clause-step
 returns-clause-step c =
     let compares = compares_some _ (sym c.is_comparison.ensures ∙ c.if-not-is_comparison.false) in
@@ -55,6 +33,3 @@ returns-clause-step c =
     (then_leaf _ _ _ (c.leaf_operand-src2.ensures.name, c.leaf_operand-src2.ensures.literal) _ _ (right_leaf _ _ _ leaves) c.if-src2.false
     (fused_leaves _ _ _ leaves list _ _ _ (c.leaf_operand-src1.ensures.name, c.leaf_operand-src1.ensures.literal) (c.leaf_operand-src2.ensures.name, c.leaf_operand-src2.ensures.literal) _ _ _ c.literal_of-constant.ensures _ _ _
     (c.fused_sources.ensures.step _ _ _ compares.0 rs n m (not_both _ _ _ leaves list _ _ _ (c.leaf_operand-src1.ensures.name, c.leaf_operand-src1.ensures.literal) (c.leaf_operand-src2.ensures.name, c.leaf_operand-src2.ensures.literal)) compares.1))))
-
-pub returns-clause-inner : goal.returns-clause-inner
-returns-clause-inner c = λ h. absurd (true≢false (sym h ∙ no_inner _ c.fused_sources.ensures.word))

@@ -1,11 +1,10 @@
 -- `codegen::flat::literal_into` meets its contract: its do-block, a step a line.
-use Rattle.std.proofs.Common.{refl, sym, inl, arith}
+use Rattle.std.proofs.Common.{refl, sym, arith}
 use Rattle.diagnostics.specs.declared.Refusal.{Refusal}
 use Rattle.runtime.specs.Instruction.{words_of}
 use Rattle.lowering.specs.Walk.{bind}
 use Rattle.lowering.specs.Steps.{destination, load_constant}
 use Rattle.steps.specs.Answers.{register_at, settled}
-use Rattle.steps.proofs.Words.{refusal_start_lem}
 use Rattle.steps.proofs.Chains.{seen_word, then_stored, stop_stored, then_emitted, stop_emitted}
 use Rattle.codegen.proofs.FlatNodes.{needing_none, needing_given}
 use Rattle.codegen.proofs.flat.literal_into.Goals as goal
@@ -13,18 +12,12 @@ use Rattle.codegen.proofs.flat.literal_into.Goals as goal
 pub returns-then-d-eq-NONE-clause-step : goal.returns-then-d-eq-NONE-clause-step
 returns-then-d-eq-NONE-clause-step c = rw (c.left_alone.ensures, c.refusal_at.ensures) (λ t rs n m. needing_none _ _ _ t register_at c.if-d-eq-NONE.true)
 
-pub returns-then-d-eq-NONE-clause-word : goal.returns-then-d-eq-NONE-clause-word
-returns-then-d-eq-NONE-clause-word c = rw (c.left_alone.ensures, c.refusal_at.ensures) (inl (refusal_start_lem Refusal.Registers 0))
-
 pub returns-then-k-clause-step : goal.returns-then-k-clause-step
 unfolding load_constant destination bind
 returns-then-k-clause-step c =
     let pooled = rw c.literal.ensures at c.store_constant-k.ensures.words in
     rw (c.left_alone-then-k.ensures, c.refusal_at-then-k.ensures)
     (λ t rs n m. needing_given _ _ _ c.if-d-eq-NONE.false (stop_stored t _ _ _ _ pooled register_at c.if-k.true))
-
-pub returns-then-k-clause-word : goal.returns-then-k-clause-word
-returns-then-k-clause-word c = rw (c.left_alone-then-k.ensures, c.refusal_at-then-k.ensures) (inl (refusal_start_lem Refusal.Constants 0))
 
 pub returns-then-n-clause-step : goal.returns-then-n-clause-step
 unfolding load_constant destination bind words_of
@@ -36,9 +29,6 @@ returns-then-n-clause-step c =
     needing_given _ _ _ c.if-d-eq-NONE.false
     (then_stored t _ _ _ _ pooled c.if-k.false (c.counted-count.ensures Refusal.Constants)
     (stop_emitted t _ _ _ _ refl emitted register_at c.if-n.true)))
-
-pub returns-then-n-clause-word : goal.returns-then-n-clause-word
-returns-then-n-clause-word c = rw (c.left_alone-then-n.ensures, c.refusal_at-then-n.ensures) (inl (refusal_start_lem Refusal.Code 0))
 
 pub returns-clause-step : goal.returns-clause-step
 unfolding load_constant destination bind words_of settled

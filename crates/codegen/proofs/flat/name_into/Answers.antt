@@ -1,10 +1,9 @@
 -- `codegen::flat::name_into` meets its contract.
-use Rattle.std.proofs.Common.{refl, inl, arith}
+use Rattle.std.proofs.Common.{refl, arith}
 use Rattle.diagnostics.specs.declared.Refusal.{Refusal}
 use Rattle.runtime.specs.Instruction.{words_of}
 use Rattle.lowering.specs.Tree.{tree_of}
 use Rattle.steps.specs.Answers.{operand_at, settled}
-use Rattle.steps.proofs.Words.{refusal_start_lem}
 use Rattle.steps.proofs.Chains.{then_emitted, stop_emitted}
 use Rattle.codegen.proofs.Walk.{ended}
 use Rattle.codegen.proofs.FlatNodes.{flat_name_undeclared, flat_name_own, flat_name_moved, asked_into}
@@ -16,9 +15,6 @@ returns-then-register-clause-step c =
     let found = rw c.node_word.ensures at c.find-register.ensures.found in
     rw (c.left_alone.ensures, c.refusal_at.ensures)
     (λ list p rs n m. flat_name_undeclared _ _ c.requires.1.1.0 _ found _ _ _ (operand_at _) c.if-register.true (omega arith))
-
-pub returns-then-register-clause-word : goal.returns-then-register-clause-word
-returns-then-register-clause-word c = rw (c.left_alone.ensures, c.refusal_at.ensures) (inl (refusal_start_lem Refusal.Undeclared _))
 
 pub returns-then-asked-register-clause-step : goal.returns-then-asked-register-clause-step
 returns-then-asked-register-clause-step c =
@@ -37,9 +33,6 @@ returns-then-n-clause-step c =
     (λ list p rs n m.
     flat_name_moved _ _ c.requires.1.1.0 _ found _ _ _ c.find-register.ensures.local c.if-register.false into.0 (c.requires.1.1.1 into.0) into.1
     (stop_emitted _ _ _ _ _ refl emitted (operand_at _) c.if-n.true))
-
-pub returns-then-n-clause-word : goal.returns-then-n-clause-word
-returns-then-n-clause-word c = rw (c.left_alone-then-n.ensures, c.refusal_at-then-n.ensures) (inl (refusal_start_lem Refusal.Code 0))
 
 pub returns-clause-step : goal.returns-clause-step
 unfolding words_of settled

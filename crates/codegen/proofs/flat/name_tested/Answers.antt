@@ -1,9 +1,8 @@
 -- `codegen::flat::name_tested` meets its contract.
-use Rattle.std.proofs.Common.{sym, inl, arith}
+use Rattle.std.proofs.Common.{sym, arith}
 use Rattle.diagnostics.specs.declared.Refusal.{Refusal}
 use Rattle.lowering.specs.Tree.{tree_of}
 use Rattle.steps.specs.Answers.{place_at, settled}
-use Rattle.steps.proofs.Words.{refusal_start_lem}
 use Rattle.steps.proofs.Chains.{last, seen_word, then_emitted, stop_emitted}
 use Rattle.codegen.proofs.FlatNodes.{condition_name_undeclared, condition_name}
 use Rattle.codegen.proofs.flat.name_tested.Goals as goal
@@ -14,9 +13,6 @@ returns-then-register-clause-step c =
     rw (c.left_alone.ensures, c.refusal_at.ensures)
     (λ list p rs n m. condition_name_undeclared _ _ c.requires.1.1 _ found _ _ _ (λ w. place_at w) c.if-register.true (omega arith))
 
-pub returns-then-register-clause-word : goal.returns-then-register-clause-word
-returns-then-register-clause-word c = rw (c.left_alone.ensures, c.refusal_at.ensures) (inl (refusal_start_lem Refusal.Undeclared _))
-
 pub returns-then-n-clause-step : goal.returns-then-n-clause-step
 returns-then-n-clause-step c =
     let found = rw c.node_word.ensures at c.find-register.ensures.found in
@@ -25,9 +21,6 @@ returns-then-n-clause-step c =
     (λ list p rs n m.
     condition_name _ _ c.requires.1.1 _ found _ _ _ c.if-register.false
     (last _ (stop_emitted _ _ _ _ _ (c.jump_if.ensures _) emitted (λ w. place_at w) c.if-n.true)))
-
-pub returns-then-n-clause-word : goal.returns-then-n-clause-word
-returns-then-n-clause-word c = rw (c.left_alone-then-n.ensures, c.refusal_at-then-n.ensures) (inl (refusal_start_lem Refusal.Code 0))
 
 pub returns-clause-step : goal.returns-clause-step
 unfolding settled

@@ -1,12 +1,9 @@
 -- `codegen::read::find` meets its contract: a lookup gives a local below the arity, or nothing.
-use Rattle.std.proofs.Common.{ap, ◌∙◌, arith}
+use Rattle.std.proofs.Common.{ap, ◌∙◌}
 use Rattle.words.proofs.Words.{length_words}
 use Rattle.environment.specs.declared.Found.{Found}
 use Rattle.codegen.proofs.Reading.{found_temporary, found_local, found_none}
 use Rattle.codegen.proofs.read.find.Goals as goal
-
-pub overflow_cast-arity : goal.overflow_cast-arity
-overflow_cast-arity c = omega (arith, length_words c.args.names.now)
 
 pub returns-in-Temp-clause-found : goal.returns-in-Temp-clause-found
 returns-in-Temp-clause-found c = absurd (found_temporary _ _ _ c.lookup-found.ensures (c.in-At.is ∙ ap Found.At c.in-Temp.is))
