@@ -41,16 +41,16 @@ module _ (ws : List ℕ) where
         in_none t = smallest_free_in_none ws 4 (below_more (λ k. 64 ≤ zeros ws k) 3 before_fourth t) (omega arith)
 
 pub returns-then-t0-lt-BITS : goal.returns-then-t0-lt-BITS
-returns-then-t0-lt-BITS c = in_first _ c.if-t0-lt-BITS.true
+returns-then-t0-lt-BITS c = in_first c.args.self.words (omega arith)
 
 pub returns-then-t1-lt-BITS : goal.returns-then-t1-lt-BITS
-returns-then-t1-lt-BITS c = in_second _ c.if-t0-lt-BITS.false c.if-t1-lt-BITS.true
+returns-then-t1-lt-BITS c = in_second c.args.self.words (omega arith) (omega arith)
 
 pub returns-then-t2-lt-BITS : goal.returns-then-t2-lt-BITS
-returns-then-t2-lt-BITS c = in_third _ c.if-t0-lt-BITS.false c.if-t1-lt-BITS.false c.if-t2-lt-BITS.true
+returns-then-t2-lt-BITS c = in_third c.args.self.words (omega arith) (omega arith) (omega arith)
 
 pub returns-then-t3-lt-BITS : goal.returns-then-t3-lt-BITS
-returns-then-t3-lt-BITS c = in_fourth _ c.if-t0-lt-BITS.false c.if-t1-lt-BITS.false c.if-t2-lt-BITS.false c.if-t3-lt-BITS.true
+returns-then-t3-lt-BITS c = in_fourth c.args.self.words (omega arith) (omega arith) (omega arith) (omega arith)
 
 pub returns : goal.returns
-returns c = in_none _ c.if-t0-lt-BITS.false c.if-t1-lt-BITS.false c.if-t2-lt-BITS.false c.if-t3-lt-BITS.false
+returns c = in_none c.args.self.words (omega arith) (omega arith) (omega arith) (omega arith)
