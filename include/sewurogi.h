@@ -4,7 +4,7 @@
  * A rule is an array of nodes. `sewurogi_lower` turns it into instructions and constants, or refuses it and says why.
  * `sewurogi_patch_jump` sets where a jump goes.
  *
- *     rt staticlib exports                                      (proves the functions, then writes the archive)
+ *     tools/archive                                             (proves the functions, then writes the archive)
  *     cc -Iinclude examples/lower.c target/staticlib/libexports.a
  *
  * Rules that hold for every function:

@@ -23,6 +23,12 @@ OTHER = {
     # What would fall together with another name in its file, each with its own.
     "bothConstant": "are_constants",
     "isDigit": "is_digit_byte",
+    "thenBranch": "then_branch",
+    "elseBranch": "else_branch",
+    "notEqual": "not_equal",
+    "goodJ": "good_j",
+    "no-else": "without_else",
+    "most-held": "held_most",
     "is-nan": "is_nan_lem",
 }
 STAY = set()
@@ -100,19 +106,21 @@ def declared(root):
     # A lemma that would have a definition's name gets _lem, and so does any name with a dash that would meet another.
     plain_ones = {n for n in names | fields if plain(n) == n} | {plain(n) for n in names | fields if "-" not in n}
     for n in names | fields:
-        if "-" in n and turns(n) and plain(n) in plain_ones:
+        if "-" in n and n not in OTHER and turns(n) and plain(n) in plain_ones:
             OTHER[n] = plain(n) + "_lem"
-    return {n for n in names if turns(n)}, {n for n in fields if turns(n)}
+    return {n for n in names | set(OTHER) if turns(n)}, {n for n in fields if turns(n)}
 
 
-def turned(text, names, fields, kept, where):
+def turned(text, names, fields, kept):
+    aliases = set(re.findall(r"(?m)^[ \t]*use \S+ as ([a-z]\w*)[ \t]*$", text))
+
     def one(it):
         word, before = it[0], text[: it.start()]
         if word in kept or before.endswith("»") or word not in names | fields:
             return word
         if before.endswith(".") and not before.endswith((" .", "..")):
             head = re.search(r"([^\s(){};,@\"]*)\.$", before)[1]
-            if word not in fields and not re.fullmatch(r"(?:\w+\.)*[A-Z]\w*", head):
+            if word not in fields and head not in aliases and not re.fullmatch(r"(?:\w+\.)*[A-Z]\w*", head):
                 return word
             if head.startswith(("tie", "goal", "given", "need")):
                 return word
@@ -124,7 +132,7 @@ def turned(text, names, fields, kept, where):
         pieces.append((it[0], True))
         at = it.end()
     pieces.append((text[at:], False))
-    out, whole = [], text
+    out = []
     for piece, is_comment in pieces:
         text = piece
         if is_comment:
@@ -174,7 +182,7 @@ def main(argv):
     for path in files(root, (".antt", ".rt", ".edit")):
         old = read(path)
         if path.endswith(".antt"):
-            new = turned(old, names, fields, of_library(old, crates), path)
+            new = turned(old, names, fields, of_library(old, crates))
         elif path.endswith(".rt"):
             kept, new, at = of_library(old, crates), "", 0
             for a, b, head in clauses(old):
@@ -182,13 +190,13 @@ def main(argv):
                 if head.startswith("ghost use") and not ours(head.split()[2].rstrip("{"), crates):
                     new += old[a:b]
                 else:
-                    new += turned(old[a:b], names, fields, kept, path)
+                    new += turned(old[a:b], names, fields, kept)
                 at = b
             new += old[at:]
         else:
             is_antt = re.search(r"(?m)^file: specs/", old)
             new = "\n".join(
-                turned(line, names, fields, set(), path) if re.match(r"(old|new): ", line) and (is_antt or re.search(r"requires|ensures|≡", line)) else line
+                turned(line, names, fields, set()) if re.match(r"(old|new): ", line) and (is_antt or re.search(r"requires|ensures|≡", line)) else line
                 for line in old.split("\n")
             )
         if new != old:

@@ -1,4 +1,4 @@
-//! Links the archive that `rt staticlib exports` writes.
+//! Links the archive that `tools/archive` writes.
 //!
 //! SEWUROGI_LIB names another one (a relative path is taken from the repository's folder).
 
@@ -14,7 +14,7 @@ fn main() {
     // Of an archive that is not there cargo watches the path, and runs this script again once it is.
     println!("cargo::rerun-if-changed={}", archive.display());
     let Ok(archive) = fs::canonicalize(&archive) else {
-        println!("cargo::error=there is no archive {given}: run `rt staticlib exports`, or name one in SEWUROGI_LIB");
+        println!("cargo::error=there is no archive {given}: run `tools/archive`, or name one in SEWUROGI_LIB");
         return;
     };
     let (folder, file) = (archive.parent().unwrap(), archive.file_name().unwrap());

@@ -100,7 +100,7 @@ module _ (t : Tree) (E : ℕ → Dest → Walk Operand) (sense : Bool) (own : De
   not_compared (Node.LogicalNot operand) h = refl
   not_compared (Node.LogicalAnd left right) h = refl
   not_compared (Node.LogicalOr left right) h = refl
-  not_compared (Node.If condition then_branch elseBranch) h = refl
+  not_compared (Node.If condition then_branch else_branch) h = refl
   not_compared (Node.Block tail) h = refl
   not_compared (Node.FunctionCall callee first count) h = refl
   not_compared (Node.PropertyAccess object property) h = refl

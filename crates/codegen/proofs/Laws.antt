@@ -3,22 +3,21 @@ use Prim.Native.Nat.{ℕ, zero, suc, ◌*◌, ◌/◌, ◌≤◌, ◌<◌}
 use native.Mathlib.Omega.{arith}
 use mathlib.Core.Path.{◌≡◌, refl, sym, ◌∙◌, ap}
 use mathlib.Core.Logic.{◌⊎◌, inl, inr}
-use mathlib.Core.Bool.{Bool, true, false, cond}
-use mathlib.Core.List.{List, [], ◌∷◌, ◌++◌}
+use mathlib.Core.Bool.{Bool, true, false}
+use mathlib.Core.List.{List, ◌++◌}
 use lib.Dec.{leb}
-use lib.ListN.{length, get_or, take, drop, get_or-eq_default}
+use lib.ListN.{length, get_or, take, drop}
 use borrow.Author.Tests.{leb-true, ltb-true}
 use Rattle.words.specs.Words.{words, tail, bytes_of}
 use Rattle.words.proofs.Words.{length_words, bytes_words}
 use Rattle.diagnostics.specs.declared.Refusal.{Refusal}
-use Rattle.diagnostics.specs.Refusal.{refusal_number}
 use Rattle.environment.specs.declared.RegisterSet.{RegisterSet}
 use Rattle.environment.specs.Environment.{parameters}
 use Rattle.lowering.specs.Checked.{Checked}
 use Rattle.patch.specs.declared.Patched.{Patched}
 use Rattle.patch.specs.Arguments.{seen_done}
 use Rattle.lowering.specs.declared.State.{State}
-use Rattle.lowering.specs.Tree.{Tree, tree_of, span_start, span_end}
+use Rattle.lowering.specs.Tree.{Tree, tree_of}
 use Rattle.lowering.specs.Questions.{question2, question8, passed, refused, questions}
 use Rattle.lowering.specs.Walk.{Made, made, Outcome, ends, stops, bind, ret, error}
 use Rattle.lowering.specs.Steps.{free_temp, patch_marks}
@@ -26,7 +25,7 @@ use Rattle.lowering.specs.Result as definition
 use Rattle.lowering.proofs.Questions.Checked.{and_right, questions_passed}
 use Rattle.lowering.proofs.Bound.Lowering.{jump_false_at, jump_true_at}
 use Rattle.lowering.proofs.Destinations.{patch_refusals}
-use Rattle.steps.specs.Answers.{place_at, refusal_at, refusal_of, names_node, error_at, settle, settled, seen, is_refusal, value_of, number_of_refusal, word_end}
+use Rattle.steps.specs.Answers.{place_at, refusal_at, names_node, error_at, settled, seen, is_refusal, word_end}
 use Rattle.steps.proofs.Chains.{seen_word, seen_refusal}
 use Rattle.codegen.specs.Ready.{Ready}
 use Rattle.result.specs.Numbers.{refused_result}
@@ -35,12 +34,12 @@ use Rattle.codegen.proofs.Lent.{lent_words, lent_back}
 
 -- the root, by its mode
 module _ {t : Tree} (checked : Checked t) (root : ℕ) (m : Made) {r : Outcome ℕ} where
-  pub mode_false : settled (conditional t false root m) ≡ r → settled (definition.lowerRoot free_temp t 1 root m) ≡ r
-  unfolding definition.lowerRoot
+  pub mode_false : settled (conditional t false root m) ≡ r → settled (definition.lower_root free_temp t 1 root m) ≡ r
+  unfolding definition.lower_root
   mode_false q = rw (jump_false_at checked root) q
 
-  pub mode_true : (mode : ℕ) → 1 < mode → settled (conditional t true root m) ≡ r → settled (definition.lowerRoot free_temp t mode root m) ≡ r
-  unfolding definition.lowerRoot
+  pub mode_true : (mode : ℕ) → 1 < mode → settled (conditional t true root m) ≡ r → settled (definition.lower_root free_temp t mode root m) ≡ r
+  unfolding definition.lower_root
   mode_true zero h q = absurd (omega arith)
   mode_true (suc zero) h q = absurd (omega arith)
   mode_true (suc (suc mode)) h q = rw (jump_true_at t root) q
@@ -64,21 +63,21 @@ module _ (t : Tree) (n : ℕ) (m m' : Made) (place : ℕ) (p : Patched) (e : pat
       no_node (inr h) = rw h
 
 -- the numbers and the buffers of a walk: the registers of a refusal do not show
-pub numbered : (arity : ℕ) (o : Outcome ℕ) → definition.loweredOf arity (settled o) ≡ definition.loweredOf arity o
-unfolding definition.loweredOf settled
+pub numbered : (arity : ℕ) (o : Outcome ℕ) → definition.lowered_of arity (settled o) ≡ definition.lowered_of arity o
+unfolding definition.lowered_of settled
 numbered arity (ends p m) = refl
 numbered arity (stops e m) = refl
 
 -- the buffers are those that are seen
 buffers : (arity : ℕ) (t : Tree) (m : Made) (a : ℕ) →
-    ((definition.loweredOf arity (seen t place_at m a)).code ≡ m.code)
-    × (((definition.loweredOf arity (seen t place_at m a)).constants ≡ m.constants) × ((definition.loweredOf arity (seen t place_at m a)).marks ≡ m.marks))
-unfolding definition.loweredOf seen
+    ((definition.lowered_of arity (seen t place_at m a)).code ≡ m.code)
+    × (((definition.lowered_of arity (seen t place_at m a)).constants ≡ m.constants) × ((definition.lowered_of arity (seen t place_at m a)).marks ≡ m.marks))
+unfolding definition.lowered_of seen
 buffers arity t m a = go (is_refusal a) refl
   where
     go : (b : Bool) → is_refusal a ≡ b →
-        ((definition.loweredOf arity (seen t place_at m a)).code ≡ m.code)
-        × (((definition.loweredOf arity (seen t place_at m a)).constants ≡ m.constants) × ((definition.loweredOf arity (seen t place_at m a)).marks ≡ m.marks))
+        ((definition.lowered_of arity (seen t place_at m a)).code ≡ m.code)
+        × (((definition.lowered_of arity (seen t place_at m a)).constants ≡ m.constants) × ((definition.lowered_of arity (seen t place_at m a)).marks ≡ m.marks))
     go true h = (rw h, (rw h, rw h))
     go false h = (rw h, (rw h, rw h))
 
@@ -100,7 +99,7 @@ module _ (nodes list names : List ℕ) (mode root : ℕ) where
     -- nothing is done
     nothing : definition.lower nodes root mode list names (words code) (words constants) (words marks)
         ≡ definition.lowered (refused_result refusal place) (definition.begin (words code) (words constants) (words marks) 0 (length (words names)))
-    unfolding definition.lower definition.lowerChecked
+    unfolding definition.lower definition.lower_checked
     nothing = rw no
 
     pub not_lowered : {r : definition.Result} → ((i : ℕ) → get_or code i 0 < 256) → ((i : ℕ) → get_or constants i 0 < 256) → ((i : ℕ) → get_or marks i 0 < 256) →
@@ -129,18 +128,18 @@ module _ (nodes list names : List ℕ) (mode root : ℕ) where
 
     module _ {code c constants p marks m : List ℕ} {nc np nm : ℕ} (lc : Lent code c nc) (lp : Lent constants p np) (lm : Lent marks m nm)
         (arity : ℕ) (h : arity ≡ length names / 4) (registers : RegisterSet) (fresh : registers ≡ parameters arity) (s : State) (a : ℕ)
-        (e : settled (definition.lowerRoot free_temp (tree_of nodes list names) mode root
+        (e : settled (definition.lower_root free_temp (tree_of nodes list names) mode root
         (made (words (take nc code)) (words (take np constants)) (words (take nm marks)) (record { registers = registers; instructions = 0; constants = 0; marks = 0 })))
         ≡ seen (tree_of nodes list names) place_at (made (words c) (words p) (words m) s) a) where
       whole : definition.lower nodes root mode list names (words code) (words constants) (words marks)
-          ≡ definition.loweredOf arity (seen (tree_of nodes list names) place_at (made (words c) (words p) (words m) s) a)
-      unfolding definition.lower definition.lowerChecked definition.begin
+          ≡ definition.lowered_of arity (seen (tree_of nodes list names) place_at (made (words c) (words p) (words m) s) a)
+      unfolding definition.lower definition.lower_checked definition.begin
       whole =
           let count : length (words names) ≡ arity = length_words names ∙ sym h in
           let run = rw (lent_is lc, lent_is lp, lent_is lm, fresh) at e in
-          rw (yes, count) (sym (numbered arity _) ∙ ap (definition.loweredOf arity) run)
+          rw (yes, count) (sym (numbered arity _) ∙ ap (definition.lowered_of arity) run)
 
-      pub lowered_numbers : {r : definition.Result} → r ≡ (definition.loweredOf arity (seen (tree_of nodes list names) place_at (made (words c) (words p) (words m) s) a)).result →
+      pub lowered_numbers : {r : definition.Result} → r ≡ (definition.lowered_of arity (seen (tree_of nodes list names) place_at (made (words c) (words p) (words m) s) a)).result →
           (r ≡ (definition.lower nodes root mode list names (words code) (words constants) (words marks)).result)
           × ((c ++ drop nc code ≡ bytes_of (definition.lower nodes root mode list names (words code) (words constants) (words marks)).code ++ tail code)
           × ((p ++ drop np constants ≡ bytes_of (definition.lower nodes root mode list names (words code) (words constants) (words marks)).constants ++ tail constants)

@@ -9,6 +9,7 @@ use mathlib.Core.Bool.{Bool}
 use mathlib.Core.List.{List, ◌++◌}
 use lib.ListN.{length}
 use denote.Ref.{Bor}
+use denote.MutBor.{MutBor}
 use Rattle.diagnostics.specs.declared.Refusal.{Refusal}
 use Rattle.diagnostics.specs.declared.Error.{Error}
 use Rattle.diagnostics.specs.Refusal.{refusal_number}
@@ -41,7 +42,7 @@ use Rattle.codegen.proofs.Stored as stored
 use Rattle.codegen.proofs.Width.{length_exit, past_exit, exact_words}
 
 -- The contract of `lower`, as its caller learns it: six slices, three of which come back changed, root and mode, and the numbers that come back.
-module _ (lifetimes : Lifetimes) (nodes_at list_at names_at code_at constants_at marks_at code_then constants_then marks_then : Bor (List ℕ)) (root mode : ℕ) (r : Result)
+module _ (lifetimes : Lifetimes) (nodes_at list_at names_at : Bor (List ℕ)) (code_at constants_at marks_at code_then constants_then marks_then : MutBor (List ℕ)) (root mode : ℕ) (r : Result)
     (contract : reads.Learnt lifetimes (nodes_at, (root, (mode, (list_at, (names_at, (code_at, (constants_at, (marks_at, tt)))))))) r
     (nodes_at, (root, (mode, (list_at, (names_at, (code_then, (constants_then, (marks_then, tt))))))))) where
   -- the bytes at entry, and those of the three buffers at exit
@@ -96,26 +97,26 @@ module _ (lifetimes : Lifetimes) (nodes_at list_at names_at code_at constants_at
 
   -- Only 0 to 18 come back.
   pub only : r.number ≤ 18
-  only = subst (λ x. x.number ≤ 18) (sym contract_result) (answers.only-lowering nodes root mode list names (words code) (words constants) (words marks))
+  only = subst (λ x. x.number ≤ 18) (sym contract_result) (answers.only_lowering nodes root mode list names (words code) (words constants) (words marks))
 
   -- Own condition, of 1 to 8: the number and the place come back exactly where that question is the first one answered no, for the lowest such node.
   pub own_condition_before : (refusal : Refusal) (place : ℕ) → 1 ≤ refusal_number refusal → refusal_number refusal ≤ 8 →
       ((r.number ≡ refusal_number refusal) × (r.place ≡ place)) ↔ FirstNo nodes list names mode root refusal place
   own_condition_before refusal place a b =
       subst (λ x. ((x.number ≡ refusal_number refusal) × (x.place ≡ place)) ↔ FirstNo nodes list names mode root refusal place) (sym contract_result)
-      (answers.own-condition-before nodes root mode list names (words code) (words constants) (words marks) refusal place a b)
+      (answers.own_condition_before nodes root mode list names (words code) (words constants) (words marks) refusal place a b)
 
   -- 14: no whole record is left for a constant.
   pub constants_full : r.number ≡ 14 → capacity 3 (words constants) ≤ r.constants
   constants_full =
       subst (λ x. x.number ≡ 14 → capacity 3 (words constants) ≤ x.constants) (sym contract_result)
-      (full.constants-full nodes root mode list names (words code) (words constants) (words marks))
+      (full.constants_full nodes root mode list names (words code) (words constants) (words marks))
 
   -- 16: no word is left for a mark.
   pub marks_full : r.number ≡ 16 → capacity 1 (words marks) ≤ mark_count nodes root mode list names code constants marks
   marks_full =
       subst (λ x. x.number ≡ 16 → capacity 1 (words marks) ≤ mark_count nodes root mode list names code constants marks) (sym contract_result)
-      (full.marks-full nodes root mode list names (words code) (words constants) (words marks))
+      (full.marks_full nodes root mode list names (words code) (words constants) (words marks))
 
   -- Own condition, of 9 to 18: number, place and span come back exactly where every question before the walk is answered yes and the walk stops with
   -- that refusal.
@@ -125,13 +126,13 @@ module _ (lifetimes : Lifetimes) (nodes_at list_at names_at code_at constants_at
   own_condition_exactly e a =
       subst (λ x. Tells nodes root mode list names (words code) (words constants) (words marks) x e
       ↔ StopsWith nodes root mode list names (words code) (words constants) (words marks) e) (sym contract_result)
-      (answers.own-condition-exactly nodes root mode list names (words code) (words constants) (words marks) e a)
+      (answers.own_condition_exactly nodes root mode list names (words code) (words constants) (words marks) e a)
 
   -- Pool (law 2): at most as many constants as there are distinct nodes that the root reaches.
   pub pool_adds_reached : r.constants ≤ reached_nodes (tree_of nodes list names) root
   pool_adds_reached =
       subst (λ x. x.constants ≤ reached_nodes (tree_of nodes list names) root) (sym contract_result)
-      (stored.pool-few nodes root mode list names (words code) (words constants) (words marks))
+      (stored.pool_few nodes root mode list names (words code) (words constants) (words marks))
 
   -- the buffers at entry are bytes, as those of a slice always are
   module _ (code_bytes : Bytes code) (constants_bytes : Bytes constants) (marks_bytes : Bytes marks) where
@@ -152,7 +153,7 @@ module _ (lifetimes : Lifetimes) (nodes_at list_at names_at code_at constants_at
     pub nothing_beyond : Beyond nodes root mode list names code constants marks r code' constants' marks'
     unfolding capacity
     nothing_beyond =
-        let w = answers.nothing-beyond nodes root mode list names (words code) (words constants) (words marks) in
+        let w = answers.nothing_beyond nodes root mode list names (words code) (words constants) (words marks) in
         let instructions : r.instructions ≡ defined.result.instructions = ap (λ x. x.instructions) contract_result in
         let pooled : r.constants ≡ defined.result.constants = ap (λ x. x.constants) contract_result in
         let code_room : 4 * r.instructions ≤ length (words code) = omega (arith, w.code_fits) in
@@ -188,19 +189,19 @@ module _ (lifetimes : Lifetimes) (nodes_at list_at names_at code_at constants_at
       pub own_condition_walk : 9 ≤ r.number → Stopped nodes root mode list names (words code) (words constants) (words marks) left
       own_condition_walk =
           subst (λ l. 9 ≤ l.result.number → Stopped nodes root mode list names (words code) (words constants) (words marks) l) (sym exact)
-          (answers.own-condition-walk nodes root mode list names (words code) (words constants) (words marks))
+          (answers.own_condition_walk nodes root mode list names (words code) (words constants) (words marks))
 
       -- With 0 no question was answered no: every one before the walk was answered yes, and the walk came to its end.
       pub accepted_walk : r.number ≡ 0 → Ended nodes root mode list names (words code) (words constants) (words marks) left
       accepted_walk =
           subst (λ l. l.result.number ≡ 0 → Ended nodes root mode list names (words code) (words constants) (words marks) l) (sym exact)
-          (answers.accepted-walk nodes root mode list names (words code) (words constants) (words marks))
+          (answers.accepted_walk nodes root mode list names (words code) (words constants) (words marks))
 
       -- Nothing beyond, by the words.
       pub words_beyond : Within nodes root mode list names (words code) (words constants) (words marks) left
       words_beyond =
           subst (λ l. Within nodes root mode list names (words code) (words constants) (words marks) l) (sym exact)
-          (answers.nothing-beyond nodes root mode list names (words code) (words constants) (words marks))
+          (answers.nothing_beyond nodes root mode list names (words code) (words constants) (words marks))
 
       -- ---- Law 2
 
@@ -209,23 +210,23 @@ module _ (lifetimes : Lifetimes) (nodes_at list_at names_at code_at constants_at
       pub registers : r.number ≡ 0 → Frames nodes root mode list names (words code) (words constants) (words marks) left
       registers =
           subst (λ l. l.result.number ≡ 0 → Frames nodes root mode list names (words code) (words constants) (words marks) l) (sym exact)
-          (frame.frame-size nodes root mode list names (words code) (words constants) (words marks))
+          (frame.frame_size_lem nodes root mode list names (words code) (words constants) (words marks))
 
       -- Given back once: whatever comes back, the numbers and words are those of the lowering whose give-back stops where the register is not held.
-      pub given_back_once : left ≡ definition.lowerBy free_held nodes root mode list names (words code) (words constants) (words marks)
-      given_back_once = exact ∙ sym (came.given-back-once nodes root mode list names (words code) (words constants) (words marks))
+      pub given_back_once : left ≡ definition.lower_by free_held nodes root mode list names (words code) (words constants) (words marks)
+      given_back_once = exact ∙ sym (came.given_back_once nodes root mode list names (words code) (words constants) (words marks))
 
       -- Nothing is cut: every field of every instruction in the code fits, and the constants are at most 4,096. Pool: no two of them are the same.
       pub nothing_cut : Fit nodes root mode list names (words code) (words constants) (words marks) left
       nothing_cut =
           subst (λ l. Fit nodes root mode list names (words code) (words constants) (words marks) l) (sym exact)
-          (reached.nothing-cut nodes root mode list names (words code) (words constants) (words marks))
+          (reached.nothing_cut nodes root mode list names (words code) (words constants) (words marks))
 
       -- Pool: where the walk ran, every constant for which it asked stands at exit at the index that it was given, which is the first place with its words.
       pub pool_first : (r.number ≡ 0) ⊎ (9 ≤ r.number) → Pool nodes root mode list names (words code) (words constants) (words marks) left
       pool_first =
           subst (λ l. (l.result.number ≡ 0) ⊎ (9 ≤ l.result.number) → Pool nodes root mode list names (words code) (words constants) (words marks) l) (sym exact)
-          (stored.pool-first nodes root mode list names (words code) (words constants) (words marks))
+          (stored.pool_first nodes root mode list names (words code) (words constants) (words marks))
 
       -- Law 3. For every tree without calls and maps that is accepted in value mode, the running law holds of the words that stand in the code and the
       -- constants at exit, and of the counts that come back.
@@ -235,7 +236,7 @@ module _ (lifetimes : Lifetimes) (nodes_at list_at names_at code_at constants_at
           let same : left ≡ definition.lower nodes root 0 list names (words code) (words constants) (words marks) =
           exact ∙ ap (λ k. definition.lower nodes root k list names (words code) (words constants) (words marks)) value in
           subst (λ l. l.result.number ≡ 0 → LawOf (tree_of nodes list names) root l) (sym same)
-          (law.running-law nodes list names root (words code) (words constants) (words marks) plain)
+          (law.running_law nodes list names root (words code) (words constants) (words marks) plain)
 
       -- The law of conditions. The same of every tree without calls and maps that is accepted in mode 1 (2), and of the place that comes back.
       pub condition_law : (sense : Bool) → mode ≡ mode_of sense → ((i : ℕ) → Reaches (tree_of nodes list names) root i → Plain (node (tree_of nodes list names) i)) →
@@ -244,4 +245,4 @@ module _ (lifetimes : Lifetimes) (nodes_at list_at names_at code_at constants_at
           let same : left ≡ definition.lower nodes root (mode_of sense) list names (words code) (words constants) (words marks) =
           exact ∙ ap (λ k. definition.lower nodes root k list names (words code) (words constants) (words marks)) jumps in
           subst (λ l. l.result.number ≡ 0 → ConditionOf sense (tree_of nodes list names) root l) (sym same)
-          (conditions.condition-law sense nodes list names root (words code) (words constants) (words marks) plain)
+          (conditions.condition_law sense nodes list names root (words code) (words constants) (words marks) plain)

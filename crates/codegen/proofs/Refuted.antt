@@ -1,7 +1,7 @@
 -- The pool's law and nothing beyond, of the program, are false of the worked page with one wrong word or byte: what they say can fail. Assumes nothing.
 use Prim.Native.Nat.{ℕ}
 use native.Mathlib.Omega.{arith}
-use mathlib.Core.Path.{◌≡◌, refl, ap, ◌∙◌}
+use mathlib.Core.Path.{◌≡◌, refl, ap}
 use mathlib.Core.List.{List, [], ◌∷◌}
 use lib.ListN.{get_or, set, replicate}
 use lib.Ieee.{of_bits, to_bits, nan_bits}
@@ -13,7 +13,7 @@ use Rattle.environment.specs.Registers.{free, take_out, put_back, smallest_from,
 use Rattle.syntax.specs.Ast.{node_word, node_at}
 use Rattle.syntax.specs.Ops.{binary_op, unary_op}
 use Rattle.runtime.specs.Function.{emit_instruction, store_constant}
-use Rattle.runtime.specs.Instruction.{words_of, has_destination, offset_word, decode}
+use Rattle.runtime.specs.Instruction.{words_of, has_destination, offset_word}
 use Rattle.runtime.specs.Operands.{reg_of}
 use Rattle.runtime.specs.Value.{number_of, constant_words}
 use Rattle.lowering.specs.Lower.{source, same_register, name_of, materialized, lower_materializing, moved, lower_name, binary_sources, lower_arguments, store_named, store_keyed, lower_entry, lower_entries, lower_else, lower_tail, lower_node, test, fused_sources, fuse, jump_node, lower_expression, lower_jump_if_false, lower_jump_if_true, expression_below, jump_below}
@@ -22,7 +22,7 @@ use Rattle.lowering.specs.Questions.{whole, question1, question2, question3, que
 use Rattle.lowering.specs.Steps.{placed, registered, allocate_temp, free_temp, destination, emit, store, load_constant, put_offset, patch_to_next, mark, patch_argument, patch_marks, patch_arguments}
 use Rattle.lowering.specs.Tree.{present, entry_nodes, children}
 use Rattle.lowering.specs.Walk.{bind, made_of}
-use Rattle.lowering.specs.Result.{Lowered, result, begin, lower_root, lowered_of, lower_checked, lower}
+use Rattle.lowering.specs.Result.{Lowered, begin, lower_root, lowered_of, lower_checked, lower}
 use Rattle.lowering.specs.Pool.{Pool}
 use Rattle.lowering.specs.Examples.{page_nodes, page_with}
 use Rattle.lowering.proofs.Walk.Refuted.{walked}

@@ -15,7 +15,7 @@ Words ws = (i : ℕ) → get_or ws i 0 < 4294967296
 
 -- how many marks were made; none of the eight numbers says it
 abbrev pub mark_count : (nodes : List ℕ) (root mode : ℕ) (list names code constants marks : List ℕ) → ℕ
-mark_count nodes root mode list names code constants marks = answers.markCount nodes root mode list names (words code) (words constants) (words marks)
+mark_count nodes root mode list names code constants marks = answers.mark_count nodes root mode list names (words code) (words constants) (words marks)
 
 module _ (nodes : List ℕ) (root mode : ℕ) (list names code constants marks : List ℕ) (r : Result) (code' constants' marks' : List ℕ) where
   -- Writes nothing: with 1 to 8 every byte of every buffer is as at entry, and the counts are 0.

@@ -90,6 +90,7 @@ fn left_alone(instructions: u32, pooled: u32, answer: u64) -> AnswerAndCounts
 }
 
 // A literal in d, if there is a register: pool, LoadConst.
+#[tactic(auto, using(steps::proofs::Words::refusal_start_lem))]
 fn literal_into(
     nodes: &[u8],
     code: &mut [u8],
@@ -122,6 +123,7 @@ fn literal_into(
 }
 
 // A name: its own register, or a Move if another one is given.
+#[tactic(auto, using(steps::proofs::Words::refusal_start_lem))]
 fn name_into(
     nodes: &[u8],
     names: &[u8],
@@ -161,6 +163,7 @@ fn name_into(
 }
 
 // Whether two nodes are literals or names, and not both literals.
+#[tactic(auto, unfolding(crate::specs::Flat::are_leaves))]
 fn are_leaves(nodes: &[u8], left: u32, right: u32) -> bool
     requires { InArena nodes.now left × InArena nodes.now right }
     ensures { result ≡ are_leaves nodes.now left right }
@@ -173,6 +176,7 @@ fn are_leaves(nodes: &[u8], left: u32, right: u32) -> bool
 }
 
 // An operator on two leaves, with its value in d, if there is a register.
+#[tactic(auto, using(steps::proofs::Words::refusal_start_lem))]
 fn binary_into(
     nodes: &[u8],
     names: &[u8],
@@ -223,6 +227,7 @@ fn binary_into(
 }
 
 // A flat node, with its value in d if it needs a register. For any other node it is left to the walk, and nothing is done.
+#[tactic(auto, using(crate::proofs::FlatNodes::flat_leaf, crate::proofs::FlatNodes::flat_binary, crate::proofs::FlatNodes::flat_other, crate::proofs::FlatNodes::answer_word))]
 fn lower_flat(
     nodes: &[u8],
     names: &[u8],
@@ -357,6 +362,7 @@ pub(crate) fn peek_into(
 }
 
 // A name as a condition: the test of its own register. The jump's place is the answer.
+#[tactic(auto, using(steps::proofs::Words::refusal_start_lem))]
 fn name_tested(
     nodes: &[u8],
     names: &[u8],
@@ -385,6 +391,7 @@ fn name_tested(
 }
 
 // A comparison of two leaves as a condition: the fused jump. Any other operator is left to the walk.
+#[tactic(auto, using(steps::proofs::Words::is_inner_refusal, steps::proofs::Words::is_inner_inner, crate::proofs::FlatNodes::no_inner))]
 fn compared_leaves(
     nodes: &[u8],
     names: &[u8],
@@ -434,6 +441,7 @@ fn compared_leaves(
 }
 
 // A name, or a comparison of leaves, on two counts.
+#[tactic(auto, using(steps::proofs::Words::is_inner_inner, crate::proofs::FlatNodes::no_inner))]
 fn flat_jump(
     nodes: &[u8],
     names: &[u8],
@@ -513,6 +521,7 @@ fn value_or_key(key: u32, value: u32) -> u32
 }
 
 // A key that is pooled: a literal, or the name itself as a string.
+#[tactic(auto, using(crate::proofs::Reading::node_other), unfolding(crate::specs::Kinds::key_operand, syntax::specs::Ast::node_at))]
 pub(crate) fn key_operand(nodes: &[u8], key: u32) -> Operand
     requires { InArena nodes.now key }
     ensures { result ≡ key_operand (node_at (words nodes.now) key) }
@@ -523,6 +532,7 @@ pub(crate) fn key_operand(nodes: &[u8], key: u32) -> Operand
     literal(nodes, key)
 }
 
+#[tactic(auto, unfolding(crate::specs::Kinds::set_opcode))]
 pub(crate) fn set_opcode(src1: u32, src2: u32) -> u32
     ensures { result ≡ set_opcode src1 src2 }
 {
@@ -540,6 +550,7 @@ pub(crate) fn set_opcode(src1: u32, src2: u32) -> u32
 
 // An entry of leaves, or a key alone, on two counts: "Literals left over are pooled last, key before value." Any other entry is left to the walk, and nothing
 // is done. What pools the fields and emits stands here and in `set_property`: inlined here, maps take a tenth to a sixth less time.
+#[tactic(auto, using(steps::proofs::Words::is_inner_refusal, steps::proofs::Words::is_inner_inner, steps::proofs::Words::is_inner_word))]
 pub(crate) fn flat_entry(
     nodes: &[u8],
     names: &[u8],

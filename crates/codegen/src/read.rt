@@ -62,6 +62,7 @@ pub(crate) fn literal_of(nodes: &[u8], left: u32, right: u32, src1: u32, src2: u
 }
 
 // The register of a name, or NONE.
+#[tactic(auto, using(words::proofs::Words::length_words))]
 pub(crate) fn find(names: &[u8], name: u32) -> u32
     requires { length (words names.now) ≤ 256 }
     ensures found { found_at result ≡ lookup (words names.now) (length (words names.now)) name }

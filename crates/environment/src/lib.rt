@@ -19,14 +19,14 @@ const BITS: u32 = 64;
 const ALL_FREE: u64 = 0xffff_ffff_ffff_ffff;
 
 // A temporary is given back once its value has been read. A local, which is a parameter or the destination of an argument, never is.
-#[derive(Drop)]
+#[derive(Clone, Copy)]
 pub enum Register {
     Temp(u32),
     Local(u32),
 }
 
 // The 256 registers: a set bit is a free one, bit r % 64 of word r / 64. The frame size is one more than the highest register taken.
-#[derive(Drop)]
+#[derive(Clone, Copy)]
 pub struct RegisterSet {
     pub words: [u64; 4],
     pub frame_size: u32,
@@ -75,6 +75,7 @@ fn held_below(arity: u32, first: u32) -> u64
 // Nothing that the lowering calls indexes a set's words by a variable: that would keep the set in memory.
 impl RegisterSet {
     // All 256 are free.
+    #[tactic(auto, unfolding(crate::specs::Registers::all_free))]
     pub fn new() -> RegisterSet
         ensures { result ≡ all_free }
     {
@@ -162,6 +163,7 @@ impl RegisterSet {
     }
 
     // Whether register r is held; a number past the last register is not.
+    #[tactic(auto, using(crate::proofs::Free::and_free), unfolding(crate::specs::Registers::held))]
     pub fn held(self, r: u32) -> bool
         ensures { result ≡ held self r }
     {
@@ -175,6 +177,7 @@ impl RegisterSet {
         }
     }
 
+    #[tactic(auto, unfolding(crate::specs::Environment::allocated, crate::specs::Environment::found))]
     pub fn allocate_local(self) -> Allocated
         ensures { result ≡ allocated Register.Local self }
     {
@@ -193,6 +196,7 @@ impl RegisterSet {
         }
     }
 
+    #[tactic(auto, unfolding(crate::specs::Environment::allocated, crate::specs::Environment::found))]
     pub fn allocate_temp(self) -> Allocated
         ensures { result ≡ allocated Register.Temp self }
     {
@@ -212,6 +216,7 @@ impl RegisterSet {
     }
 
     // A temporary is given back; a local stays held.
+    #[tactic(auto, unfolding(crate::specs::Environment::freed))]
     pub fn free_temp(self, register: Register) -> RegisterSet
         ensures { result ≡ freed self register }
     {

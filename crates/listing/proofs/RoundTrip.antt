@@ -6,14 +6,14 @@ use mathlib.Core.Option.{some}
 use Prim.Native.Nat.{ℕ, zero, suc, ◌+◌, ◌*◌, ◌/◌, ◌≤◌}
 use native.Mathlib.Omega.{arith}
 use native.Mathlib.Nat.{mul-zero}
-use lib.ListN.{length, get_or, take, drop, length-append, length-drop, take-append-drop}
+use lib.ListN.{length, take, drop, length-append, length-drop, take-append-drop}
 use lib.Seq.{drop_at, get_or-drop}
 use borrow.Author.Tests.{le-leb}
 use Rattle.syntax.specs.Ast.{node_width}
 use Rattle.listing.specs.declared.column.Column.{Column}
 use Rattle.listing.specs.declared.text.Header.{Header}
 use Rattle.listing.specs.declared.text.Head.{Head}
-use Rattle.listing.specs.Column.{column_bytes, max_word, write_column}
+use Rattle.listing.specs.Column.{column_bytes, write_column}
 use Rattle.listing.specs.Text.{nodes_bound, list_words_bound, parameters_bound, line_bytes, read_as, behind, read_line, below, read_lines, header_width, list_width, name_width, header_of, nodes_at, list_at, names_at, text_bytes, within, read_header, read_nodes, read_list, read_names, read_text, TextTree, text_tree, read_tree}
 use Rattle.listing.specs.Output.{write_line, write_lines, header_words, write_tree, Words, Fits}
 use Rattle.listing.proofs.Columns.{column_back, length_column}

@@ -28,6 +28,7 @@ fn is_digit(b: u8) -> bool
 }
 
 // A byte after spaces alone.
+#[tactic(auto, unfolding(crate::specs::Column::first))]
 fn first(b: u8) -> Column
     ensures { result ≡ first b }
 {
@@ -42,6 +43,7 @@ fn first(b: u8) -> Column
 }
 
 // A byte after the number x.
+#[tactic(auto, unfolding(crate::specs::Column::more))]
 fn more(x: u32, b: u8) -> Column
     ensures { result ≡ more x b }
 {
@@ -60,6 +62,7 @@ fn more(x: u32, b: u8) -> Column
 }
 
 // The column so far, and one byte more.
+#[tactic(auto, unfolding(crate::specs::Column::step))]
 fn step(c: Column, b: u8) -> Column
     ensures { result ≡ step c b }
 {
@@ -99,6 +102,7 @@ pub fn put(s: &mut [u8], i: usize, b: u8)
 }
 
 // The last digit of what is left of a number, or a space where nothing is left.
+#[tactic(auto, unfolding(crate::specs::Column::padding))]
 fn padding(x: u32) -> u8
     ensures { result ≡ padding x }
 {

@@ -10,7 +10,7 @@ use syntax::ast::NODE_WORDS;
 use words::{put_word, word};
 
 // What the first line of a text says.
-#[derive(Drop)]
+#[derive(Clone, Copy)]
 pub struct Header {
     pub mode: u32,
     pub root: u32,
@@ -120,6 +120,7 @@ fn within(h: Header) -> bool
 }
 
 // The header of a line's words.
+#[tactic(auto, unfolding(crate::specs::Text::header_of))]
 fn header_of(line: &[u8]) -> Header
     ensures { result ≡ header_of (words line.now) }
 {

@@ -7,6 +7,7 @@ use mathlib.Core.Path.{◌≡◌, refl, sym, ap, ◌∙◌, subst}
 use mathlib.Core.List.{List, [], ◌∷◌, ◌++◌}
 use lib.ListN.{length, take, drop, take-append-drop, drop_of_length-le}
 use lib.Seq.{sets, sets-eq, length-sets, length-take-le, take_all, take_at, drop_at}
+use denote.MutBor.{MutBor}
 use denote.Ref.{Bor}
 use Rattle.words.proofs.Records.{sets_out}
 use Rattle.listing.specs.declared.text.Head.{Head}
@@ -79,7 +80,7 @@ unwritten s none = go (read_text s) refl
         absurd (none t only.1 only.0)
 
 -- The contract of `list`, as its caller learns it: two slices, of which the second comes back changed, and the number that comes back.
-module _ (lifetimes : List ℕ × (List ℕ × Unit {0})) (text_at out_at out_then : Bor (List ℕ)) (r : ℕ)
+module _ (lifetimes : List ℕ × (List ℕ × Unit {0})) (text_at : Bor (List ℕ)) (out_at out_then : MutBor (List ℕ)) (r : ℕ)
     (contract : reads.Learnt lifetimes (text_at, (out_at, tt)) r (text_at, (out_then, tt))) where
   -- the bytes of the text, and those of the buffer at entry and at exit
   abbrev pub text : List ℕ

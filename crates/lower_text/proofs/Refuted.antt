@@ -1,9 +1,9 @@
 -- `Prints` is false of the worked page with one wrong byte, or with a wrong number: what it says can fail. Assumes nothing.
 use Prim.Native.Nat.{ℕ}
 use native.Mathlib.Omega.{arith}
-use mathlib.Core.Path.{◌≡◌, refl, ap}
+use mathlib.Core.Path.{ap}
 use mathlib.Core.List.{List, [], ◌∷◌, ◌++◌}
-use lib.ListN.{length, get_or, set, take, replicate}
+use lib.ListN.{get_or, set, replicate}
 use Rattle.listing.specs.Text.{line_feed}
 use Rattle.listing.specs.Page.{codes, bytes_of_lines, page_listing}
 use Rattle.lower_text.specs.Prints.{Prints}

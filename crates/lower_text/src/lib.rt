@@ -117,6 +117,7 @@ fn list_good(h: Header, nodes: &[u8], list: &[u8], names: &[u8], out: &mut [u8])
 }
 
 // Text laid out otherwise or past the bounds: number 1 and zeros.
+#[tactic(auto, unfolding(words::specs::Words::words, listing::specs::Output::print_tree))]
 fn list_bad(out: &mut [u8]) -> usize
     ensures bytes { out.new ≡ sets out.old 0 (print_tree none) }
     ensures length { result ≡ length (print_tree none) }

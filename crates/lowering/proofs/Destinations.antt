@@ -72,7 +72,7 @@ literal_source (Node.Unary operator operand) = refl
 literal_source (Node.LogicalNot operand) = refl
 literal_source (Node.LogicalAnd left right) = refl
 literal_source (Node.LogicalOr left right) = refl
-literal_source (Node.If condition then_branch elseBranch) = refl
+literal_source (Node.If condition then_branch else_branch) = refl
 literal_source (Node.Block tail) = refl
 literal_source (Node.FunctionCall callee first count) = refl
 literal_source (Node.PropertyAccess object property) = refl
@@ -164,7 +164,7 @@ module _ (t : Tree) (E : ℕ → Dest → Walk Operand) (J : ℕ → Walk ℕ) (
       chain (destination_at dest m) (λ d m₁ h. past _ (λ src m₂. past _ (λ jump m₃. past _ (λ r m₄. past _ (λ u m₅. aimed d h)))))
   node_aimed (Node.LogicalOr left right) l dest m =
       chain (destination_at dest m) (λ d m₁ h. past _ (λ src m₂. past _ (λ jump m₃. past _ (λ r m₄. past _ (λ u m₅. aimed d h)))))
-  node_aimed (Node.If condition then_branch elseBranch) l dest m =
+  node_aimed (Node.If condition then_branch else_branch) l dest m =
       past _ (λ jump m₁. chain (destination_at dest m₁) (λ d m₂ h. past _ (λ r m₃. past _ (λ end m₄. past _ (λ u m₅. past _ (λ s m₆. past _ (λ v m₇. aimed d h)))))))
   node_aimed (Node.Block tail) l dest m = chain (destination_at dest m) (λ d m₁ h. past _ (λ r m₂. aimed d h))
   node_aimed (Node.FunctionCall callee first count) l dest m =
@@ -189,7 +189,7 @@ module _ (t : Tree) (E : ℕ → Dest → Walk Operand) (J : ℕ → Walk ℕ) (
   literal_of (Node.LogicalNot operand) l dest = absurd (false≢true l)
   literal_of (Node.LogicalAnd left right) l dest = absurd (false≢true l)
   literal_of (Node.LogicalOr left right) l dest = absurd (false≢true l)
-  literal_of (Node.If condition then_branch elseBranch) l dest = absurd (false≢true l)
+  literal_of (Node.If condition then_branch else_branch) l dest = absurd (false≢true l)
   literal_of (Node.Block tail) l dest = absurd (false≢true l)
   literal_of (Node.FunctionCall callee first count) l dest = absurd (false≢true l)
   literal_of (Node.PropertyAccess object property) l dest = absurd (false≢true l)

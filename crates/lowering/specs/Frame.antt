@@ -93,4 +93,4 @@ module _ (nodes : List ℕ) (root mode : ℕ) (list names code constants marks :
     pub below_frame : (r : ℕ) → Held made r → r < frame_of made
     pub size : l.result.frame_size ≡ frame_of made
     pub one_more : l.result.frame_size ≡ max (length (words names)) (highest run)
-    pub most_held_lem : l.result.frame_size ≡ most_held run
+    pub held_most : l.result.frame_size ≡ most_held run

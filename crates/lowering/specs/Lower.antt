@@ -51,7 +51,7 @@ name_of (Node.Unary operator operand) = none
 name_of (Node.LogicalNot operand) = none
 name_of (Node.LogicalAnd left right) = none
 name_of (Node.LogicalOr left right) = none
-name_of (Node.If condition then_branch elseBranch) = none
+name_of (Node.If condition then_branch else_branch) = none
 name_of (Node.Block tail) = none
 name_of (Node.FunctionCall callee first count) = none
 name_of (Node.PropertyAccess object property) = none
@@ -147,7 +147,7 @@ module _ (t : Tree) where
 
     -- 11: "Does the if have an else, asked after condition, then and both jumps, the first patched? (the if)"
     unfoldable pub lower_else : ℕ → ℕ → Register → Walk Register
-    lower_else i elseBranch d = cond (eqb elseBranch absent) (refuse Refusal.Else i) (lower_materializing (E elseBranch) (Dest.To d))
+    lower_else i else_branch d = cond (eqb else_branch absent) (refuse Refusal.Else i) (lower_materializing (E else_branch) (Dest.To d))
 
     -- "Block: destination, then the tail or nil."
     unfoldable pub lower_tail : ℕ → Register → Walk Register
@@ -189,7 +189,7 @@ module _ (t : Tree) where
     jump_node sense own (Node.LogicalNot operand) = test sense own
     jump_node sense own (Node.LogicalAnd left right) = test sense own
     jump_node sense own (Node.LogicalOr left right) = test sense own
-    jump_node sense own (Node.If condition then_branch elseBranch) = test sense own
+    jump_node sense own (Node.If condition then_branch else_branch) = test sense own
     jump_node sense own (Node.Block tail) = test sense own
     jump_node sense own (Node.FunctionCall callee first count) = test sense own
     jump_node sense own (Node.PropertyAccess object property) = test sense own
@@ -265,13 +265,13 @@ module _ (give_back : Register → Walk Unit) (t : Tree) where
       patch_to_next jump
       ret (Operand.Register d)
     -- "If: condition, destination, then, jump, else. Registers of a condition stay held"
-    lower_node J i (Node.If condition then_branch elseBranch) dest = do
+    lower_node J i (Node.If condition then_branch else_branch) dest = do
       jump ← J condition
       d ← destination dest
       lower_materializing (E then_branch) (Dest.To d)
       end ← emit (Instruction.Jump 0)
       patch_to_next jump
-      lower_else t E i elseBranch d
+      lower_else t E i else_branch d
       patch_to_next end
       ret (Operand.Register d)
     lower_node J i (Node.Block tail) dest = do

@@ -136,8 +136,8 @@ module _ (M : Operators) where
     node_value W (Node.LogicalNot operand) = and_then (W operand) (λ a. given (M.unary invert a))
     node_value W (Node.LogicalAnd left right) = and_then (W left) (λ a. and_then (given (M.test a)) (λ b. cond b (W right) (evaluates a)))
     node_value W (Node.LogicalOr left right) = and_then (W left) (λ a. and_then (given (M.test a)) (λ b. cond b (evaluates a) (W right)))
-    node_value W (Node.If condition then_branch elseBranch) =
-        and_then (W condition) (λ a. and_then (given (M.test a)) (λ b. cond b (W then_branch) (cond (eqb elseBranch absent) undefined (W elseBranch))))
+    node_value W (Node.If condition then_branch else_branch) =
+        and_then (W condition) (λ a. and_then (given (M.test a)) (λ b. cond b (W then_branch) (cond (eqb else_branch absent) undefined (W else_branch))))
     node_value W (Node.Block tail) = cond (eqb tail absent) (evaluates M.nil) (W tail)
     node_value W (Node.FunctionCall callee start count) = undefined
     node_value W (Node.PropertyAccess object symbol) = and_then (W object) (λ a. given (M.binary property a (M.string symbol)))
@@ -180,7 +180,7 @@ module _ (M : Operators) where
     condition_asks W (Node.LogicalNot operand) = Unit {0}
     condition_asks W (Node.LogicalAnd left right) = Unit {0}
     condition_asks W (Node.LogicalOr left right) = Unit {0}
-    condition_asks W (Node.If condition then_branch elseBranch) = Unit {0}
+    condition_asks W (Node.If condition then_branch else_branch) = Unit {0}
     condition_asks W (Node.Block tail) = Unit {0}
     condition_asks W (Node.FunctionCall callee start count) = Unit {0}
     condition_asks W (Node.PropertyAccess object symbol) = Unit {0}
@@ -202,9 +202,9 @@ module _ (M : Operators) where
     node_asks W A C (Node.LogicalNot operand) = A operand
     node_asks W A C (Node.LogicalAnd left right) = A left × IfAny (λ b. Chosen b (A right) (Unit {0})) (tests (W left))
     node_asks W A C (Node.LogicalOr left right) = A left × IfAny (λ b. Chosen b (Unit {0}) (A right)) (tests (W left))
-    node_asks W A C (Node.If condition then_branch elseBranch) =
+    node_asks W A C (Node.If condition then_branch else_branch) =
         A condition × C condition
-        × IfAny (λ b. Chosen b (A then_branch) (Chosen (eqb elseBranch absent) (Unit {0}) (A elseBranch))) (tests (W condition))
+        × IfAny (λ b. Chosen b (A then_branch) (Chosen (eqb else_branch absent) (Unit {0}) (A else_branch))) (tests (W condition))
     node_asks W A C (Node.Block tail) = Chosen (eqb tail absent) (Unit {0}) (A tail)
     node_asks W A C (Node.FunctionCall callee start count) = Unit {0}
     node_asks W A C (Node.PropertyAccess object symbol) = A object
@@ -255,7 +255,7 @@ Plain (Node.Unary operator operand) = Unit {0}
 Plain (Node.LogicalNot operand) = Unit {0}
 Plain (Node.LogicalAnd left right) = Unit {0}
 Plain (Node.LogicalOr left right) = Unit {0}
-Plain (Node.If condition then_branch elseBranch) = Unit {0}
+Plain (Node.If condition then_branch else_branch) = Unit {0}
 Plain (Node.Block tail) = Unit {0}
 Plain (Node.FunctionCall callee start count) = ⊥
 Plain (Node.PropertyAccess object symbol) = Unit {0}
@@ -273,7 +273,7 @@ node_size (Node.Unary operator operand) = 1
 node_size (Node.LogicalNot operand) = 1
 node_size (Node.LogicalAnd left right) = 1
 node_size (Node.LogicalOr left right) = 1
-node_size (Node.If condition then_branch elseBranch) = 2
+node_size (Node.If condition then_branch else_branch) = 2
 node_size (Node.Block tail) = 1
 node_size (Node.FunctionCall callee start count) = 1
 node_size (Node.PropertyAccess object symbol) = 1

@@ -19,8 +19,8 @@ pub data Part (t : Tree) : Node → ℕ → Type 0 where
   or_left : {l r : ℕ} → Part t (Node.LogicalOr l r) l
   or_right : {l r : ℕ} → Part t (Node.LogicalOr l r) r
   condition : {c a b : ℕ} → Part t (Node.If c a b) c
-  then_branch_lem : {c a b : ℕ} → Part t (Node.If c a b) a
-  else_branch : {c a b : ℕ} → b ≢ absent → Part t (Node.If c a b) b
+  then_part : {c a b : ℕ} → Part t (Node.If c a b) a
+  else_part : {c a b : ℕ} → b ≢ absent → Part t (Node.If c a b) b
   tail : {x : ℕ} → x ≢ absent → Part t (Node.Block x) x
   argument : {callee first count : ℕ} (k : ℕ) → k < count → Part t (Node.FunctionCall callee first count) (get_or t.list (first + k) 0)
   called : {callee first count : ℕ} → Part t (Node.FunctionCall callee first count) callee

@@ -30,7 +30,7 @@ module _ (t : Tree) (E : ℕ → Dest → Walk Operand) (J : ℕ → Walk ℕ) w
   before_register i (Node.LogicalNot operand) = ret tt
   before_register i (Node.LogicalAnd left right) = ret tt
   before_register i (Node.LogicalOr left right) = ret tt
-  before_register i (Node.If condition then_branch elseBranch) = J condition >> ret tt
+  before_register i (Node.If condition then_branch else_branch) = J condition >> ret tt
   before_register i (Node.Block tail) = ret tt
   before_register i (Node.FunctionCall callee first count) = lower_arguments t E i first count 0 >> ret tt
   before_register i (Node.PropertyAccess object property) = ret tt

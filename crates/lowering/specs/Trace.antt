@@ -72,7 +72,7 @@ constant_of_node (Node.Unary operator operand) = none
 constant_of_node (Node.LogicalNot operand) = none
 constant_of_node (Node.LogicalAnd left right) = none
 constant_of_node (Node.LogicalOr left right) = none
-constant_of_node (Node.If condition then_branch elseBranch) = none
+constant_of_node (Node.If condition then_branch else_branch) = none
 constant_of_node (Node.Block tail) = cond (eqb tail absent) (some Operand.Nil) none
 constant_of_node (Node.FunctionCall callee start count) = none
 constant_of_node (Node.PropertyAccess object property) = some (Operand.String property)
@@ -97,7 +97,7 @@ module _ (t : Tree) (root : ℕ) where
     -- 10: all 256 registers are held
     registers : {m : Made} → ((r : ℕ) → r < register_count → Held m r) → Own (unnamed Refusal.Registers) m
     -- 11: the if has no else
-    no_else_lem : {m : Made} {i condition then_branch : ℕ} → Reaches t root i → node t i ≡ Node.If condition then_branch absent → Own (at_node Refusal.Else i) m
+    without_else : {m : Made} {i condition then_branch : ℕ} → Reaches t root i → node t i ≡ Node.If condition then_branch absent → Own (at_node Refusal.Else i) m
     -- 12: the key of entry k of a map is no name, and the entry has no value
     no_value : {m : Made} {i start count : ℕ} (k : ℕ) → Reaches t root i → node t i ≡ Node.Map start count → k < count →
         name_of (node t (get_or t.list (start + 2 * k) 0)) ≡ none → get_or t.list (start + 2 * k + 1) 0 ≡ absent →

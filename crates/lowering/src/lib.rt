@@ -7,7 +7,7 @@ use environment::{Register, RegisterSet};
 pub const RESULT_WORDS: usize = 8;
 
 // The part of kaori's `Lower` that is not a lent slice: the registers, and how many records of each buffer are made.
-#[derive(Drop)]
+#[derive(Clone, Copy)]
 pub struct State {
     pub registers: RegisterSet,
     pub instructions: u32,
@@ -16,7 +16,7 @@ pub struct State {
 }
 
 // The register that is to hold a value, if one is asked for.
-#[derive(Drop)]
+#[derive(Clone, Copy)]
 pub enum Dest {
     Any,
     To(Register),

@@ -74,7 +74,7 @@ less_or_past w h = or_else w 9 (λ e. past w (omega arith))
 
 -- GreaterEqual or LessEqual
 pub greater_equal_or_past : (w : ℕ) → 5 ≤ w → (w ≡ 5 → ⊥) → (w ≡ 6 → ⊥) → ((w ≡ 7) ⊎ (w ≡ 9) → ⊥) → (w ≡ 8) ⊎ (binary_op w ≡ BinaryOp.LessEqual)
-greater_equal_or_past w h equal notEqual o = or_else w 8 (λ e. past w (five_past 5 h equal notEqual (λ q. o (inl q)) e (λ q. o (inr q))))
+greater_equal_or_past w h equal not_equal o = or_else w 8 (λ e. past w (five_past 5 h equal not_equal (λ q. o (inl q)) e (λ q. o (inr q))))
 
 -- the comparisons start at Equal
 pub first_comparison : (w : ℕ) {c : Comparison} → comparison (binary_op w) ≡ some c → 5 ≤ w

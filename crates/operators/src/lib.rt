@@ -15,6 +15,7 @@ use runtime::opcode;
 use syntax::operator;
 
 // Greater swaps the operands.
+#[tactic(auto, using(crate::proofs::Words::past), unfolding(runtime::specs::Instruction::words_of, syntax::specs::Ops::binary_op, lowering::specs::Operators::binary_rr, crate::specs::Opcodes::swaps))]
 pub fn binary_rr(operator: u32) -> u32
     ensures { (d a b : ℕ) → words_of (binary_rr (binary_op operator) d a b)
         ≡ result ∷ d ∷ first_of (swaps (binary_op operator)) a b ∷ second_of (swaps (binary_op operator)) a b ∷ [] }
@@ -33,6 +34,7 @@ pub fn binary_rr(operator: u32) -> u32
 }
 
 // Greater swaps the operands: the constant comes first.
+#[tactic(auto, using(crate::proofs::Words::past), unfolding(runtime::specs::Instruction::words_of, syntax::specs::Ops::binary_op, lowering::specs::Operators::binary_rk, crate::specs::Opcodes::swaps))]
 pub fn binary_rk(operator: u32) -> u32
     ensures { (d a k : ℕ) → words_of (binary_rk (binary_op operator) d a k)
         ≡ result ∷ d ∷ first_of (swaps (binary_op operator)) a k ∷ second_of (swaps (binary_op operator)) a k ∷ [] }
@@ -53,6 +55,7 @@ pub fn binary_rk(operator: u32) -> u32
 }
 
 // A constant on the left of add, multiply, equal, not-equal goes right.
+#[tactic(auto, using(crate::proofs::Words::past), unfolding(runtime::specs::Instruction::words_of, syntax::specs::Ops::binary_op, lowering::specs::Operators::binary_kr, crate::specs::Opcodes::swaps_kr))]
 pub fn binary_kr(operator: u32) -> u32
     ensures { (d k b : ℕ) → words_of (binary_kr (binary_op operator) d k b)
         ≡ result ∷ d ∷ first_of (swaps_kr (binary_op operator)) k b ∷ second_of (swaps_kr (binary_op operator)) k b ∷ [] }
@@ -73,6 +76,7 @@ pub fn binary_kr(operator: u32) -> u32
 }
 
 // Whether the operands of binary_rr and binary_rk are swapped.
+#[tactic(auto, using(crate::proofs::Words::swaps_word))]
 pub fn swaps(operator: u32) -> bool
     ensures { result ≡ swaps (binary_op operator) }
 {
@@ -80,6 +84,7 @@ pub fn swaps(operator: u32) -> bool
 }
 
 // Whether those of binary_kr are.
+#[tactic(auto, using(crate::proofs::Words::past), unfolding(syntax::specs::Ops::binary_op, crate::specs::Opcodes::swaps_kr))]
 pub fn swaps_kr(operator: u32) -> bool
     ensures { result ≡ swaps_kr (binary_op operator) }
 {
@@ -92,6 +97,7 @@ pub fn swaps_kr(operator: u32) -> bool
 }
 
 // The opcode of a unary operator.
+#[tactic(auto, using(syntax::proofs::Tables::get_or_past), unfolding(runtime::specs::Instruction::words_of, syntax::specs::Ops::unary_op, lowering::specs::Operators::unary))]
 pub fn unary(operator: u32) -> u32
     ensures { (d a : ℕ) → words_of (unary (unary_op operator) d a) ≡ result ∷ d ∷ a ∷ 0 ∷ [] }
 {
@@ -103,6 +109,7 @@ pub fn unary(operator: u32) -> u32
 }
 
 // Six of the operators compare.
+#[tactic(auto, using(crate::proofs::Words::compares_word))]
 pub fn is_comparison(operator: u32) -> bool
     ensures { result ≡ is_comparison (binary_op operator) }
 {
@@ -110,6 +117,7 @@ pub fn is_comparison(operator: u32) -> bool
 }
 
 // The jump that is taken where the comparison gives `sense`.
+#[tactic(auto, using(crate::proofs::Words::past, crate::proofs::Words::first_comparison), unfolding(runtime::specs::Instruction::words_of, syntax::specs::Ops::binary_op, lowering::specs::Operators::comparison, lowering::specs::Operators::jump_rr, crate::specs::Opcodes::jump_swaps))]
 pub fn jump_rr(sense: bool, operator: u32) -> u32
     ensures { (c : Comparison) → comparison (binary_op operator) ≡ some c → (a b : ℕ)
         → words_of (jump_rr sense c a b) ≡ result ∷ first_of (jump_swaps sense c) a b ∷ second_of (jump_swaps sense c) a b ∷ 0 ∷ [] }
@@ -132,6 +140,7 @@ pub fn jump_rr(sense: bool, operator: u32) -> u32
 }
 
 // The same of a register and a constant, in this order.
+#[tactic(auto, using(crate::proofs::Words::past, crate::proofs::Words::first_comparison), unfolding(runtime::specs::Instruction::words_of, syntax::specs::Ops::binary_op, lowering::specs::Operators::comparison, lowering::specs::Operators::jump_rk))]
 pub fn jump_rk(sense: bool, operator: u32) -> u32
     ensures { (c : Comparison) → comparison (binary_op operator) ≡ some c → (a k : ℕ) → words_of (jump_rk sense c a k) ≡ result ∷ a ∷ k ∷ 0 ∷ [] }
 {
@@ -157,6 +166,7 @@ pub fn jump_rk(sense: bool, operator: u32) -> u32
 }
 
 // The same of a constant and a register; their fields, too, are the register and then the constant.
+#[tactic(auto, using(crate::proofs::Words::past, crate::proofs::Words::first_comparison), unfolding(runtime::specs::Instruction::words_of, syntax::specs::Ops::binary_op, lowering::specs::Operators::comparison, lowering::specs::Operators::jump_kr))]
 pub fn jump_kr(sense: bool, operator: u32) -> u32
     ensures { (c : Comparison) → comparison (binary_op operator) ≡ some c → (k b : ℕ) → words_of (jump_kr sense c k b) ≡ result ∷ b ∷ k ∷ 0 ∷ [] }
 {
@@ -182,6 +192,7 @@ pub fn jump_kr(sense: bool, operator: u32) -> u32
 }
 
 // Whether the operands of jump_rr are swapped.
+#[tactic(auto, using(crate::proofs::Words::past, crate::proofs::Words::first_comparison), unfolding(syntax::specs::Ops::binary_op, lowering::specs::Operators::comparison, crate::specs::Opcodes::jump_swaps))]
 pub fn jump_swaps(sense: bool, operator: u32) -> bool
     ensures { (c : Comparison) → comparison (binary_op operator) ≡ some c → result ≡ jump_swaps sense c }
 {
@@ -193,6 +204,7 @@ pub fn jump_swaps(sense: bool, operator: u32) -> bool
 }
 
 // The jump that is taken where the register tests as `sense`.
+#[tactic(auto, unfolding(runtime::specs::Instruction::words_of, lowering::specs::Operators::jump_if))]
 pub fn jump_if(sense: bool) -> u32
     ensures { (a : ℕ) → words_of (jump_if sense a) ≡ result ∷ a ∷ 0 ∷ 0 ∷ [] }
 {

@@ -5,7 +5,7 @@ use mathlib.Core.Path.{◌≡◌, sym, ◌∙◌}
 use mathlib.Core.Logic.{◌⊎◌, ◌↔◌}
 use mathlib.Core.List.{List, ◌++◌}
 use lib.ListN.{get_or}
-use denote.Ref.{Bor}
+use denote.MutBor.{MutBor}
 use Rattle.words.specs.Words.{words, tail, bytes_of}
 use Rattle.words.proofs.Words.{bytes_words}
 use Rattle.lowering.specs.Result.{patch_jump}
@@ -15,7 +15,7 @@ use Rattle.patch.specs.Laws.{OneOffset, Lifetimes}
 use Rattle.patch.proofs.patch_jump.Reads as reads
 
 -- The contract of `patch_jump`, as its caller learns it: the code, which comes back changed, three numbers, and the number that comes back.
-module _ (lifetimes : Lifetimes) (code_at code_then : Bor (List ℕ)) (count index offset r : ℕ)
+module _ (lifetimes : Lifetimes) (code_at code_then : MutBor (List ℕ)) (count index offset r : ℕ)
     (contract : reads.Learnt lifetimes (code_at, (count, (index, (offset, tt)))) r (code_then, (count, (index, (offset, tt))))) where
   -- the bytes at entry and at exit
   abbrev pub entry : List ℕ

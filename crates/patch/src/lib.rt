@@ -26,6 +26,7 @@ pub enum Patched {
 }
 
 // Sets the offset of the jump at `place`.
+#[tactic(auto, using(lowering::proofs::Running::Decode::offset_small), unfolding(lowering::specs::Steps::put_offset))]
 pub fn put_offset(code: &mut [u8], place: u32, offset: u32)
     ensures words { words code.new ≡ put_offset (words code.old) place offset }
     ensures tail { tail code.new ≡ tail code.old }
@@ -37,6 +38,7 @@ pub fn put_offset(code: &mut [u8], place: u32, offset: u32)
 }
 
 // Whether instruction `index` is one of the first `count`, all in the buffer, and a jump.
+#[tactic(auto, unfolding(lowering::specs::Result::can_patch))]
 fn can_patch(code: &[u8], count: u32, index: u32) -> bool
     ensures { result ≡ can_patch (words code.now) count index }
 {
@@ -57,6 +59,7 @@ fn can_patch(code: &[u8], count: u32, index: u32) -> bool
 }
 
 // Patching: 0, or 19 and nothing changes. Of the bytes only those of the offset change.
+#[tactic(auto, using(crate::proofs::Patches::bytes_are), unfolding(lowering::specs::Result::patch_jump))]
 pub fn patch_jump(code: &mut [u8], count: u32, index: u32, offset: u32) -> u32
     ensures number { result ≡ (patch_jump (words code.old) count index offset).number }
     ensures bytes { code.new ≡ bytes_of (patch_jump (words code.old) count index offset).code ++ tail code.old }
@@ -72,6 +75,7 @@ pub fn patch_jump(code: &mut [u8], count: u32, index: u32, offset: u32) -> u32
 
 // Marks the last of `instructions` instructions: its place is put after the first `count` marks. The answer is the place of the mark, or FULL; FULL also if there is
 // no instruction.
+#[tactic(auto, using(words::proofs::Records::appended_full, crate::proofs::Marks::unmarked), unfolding(crate::specs::Arguments::mark_argument))]
 pub fn mark_argument(marks: &mut [u8], count: u32, instructions: u32) -> u32
     ensures words { buffer (words marks.new) (appended count result (cond (eqb instructions 0) Refusal.Unmarked Refusal.Marks))
         ≡ mark_argument (words marks.old) count instructions }
@@ -85,6 +89,7 @@ pub fn mark_argument(marks: &mut [u8], count: u32, instructions: u32) -> u32
 }
 
 // Adds the frame size to the destination of the instruction at `place`.
+#[tactic(auto, using(crate::proofs::Patches::argument_none, crate::proofs::Patches::argument_done, crate::proofs::Patches::argument_over), unfolding(crate::specs::Arguments::seen_done))]
 pub fn patch_argument(code: &mut [u8], place: u32, frame_size: u32) -> Patched
     ensures words { (constants marks : List ℕ) (s : State) → s.registers.frame_size ≡ frame_size
         → patch_argument place (made (words code.old) constants marks s) ≡ seen_done result (made (words code.new) constants marks s) }

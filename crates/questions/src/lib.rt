@@ -46,6 +46,7 @@ pub enum CheckAnswer {
 }
 
 // 1: whether there are whole nodes, list words and names, and not too few or too many.
+#[tactic(auto, using(words::proofs::Words::length_words), unfolding(lowering::specs::Questions::question1, lowering::specs::Questions::whole))]
 fn sizes_fit(nodes: &[u8], list: &[u8], names: &[u8]) -> bool
     ensures { result ≡ question1 nodes.now list.now names.now }
 {
@@ -59,6 +60,7 @@ fn sizes_fit(nodes: &[u8], list: &[u8], names: &[u8]) -> bool
 }
 
 // 4: whether boolean and operator words are in their ranges, unused words 0.
+#[tactic(auto, using(crate::proofs::Tables::past_used_words), unfolding(lowering::specs::Questions::question4))]
 fn words_used(kind: u32, a: u32, b: u32, c: u32) -> bool
     ensures { result ≡ question4 kind a b c }
 {
@@ -83,6 +85,7 @@ fn words_used(kind: u32, a: u32, b: u32, c: u32) -> bool
 }
 
 // 5: whether a number is neither NaN nor minus zero.
+#[tactic(auto, unfolding(lowering::specs::Questions::question5))]
 fn number_allowed(kind: u32, low: u32, high: u32) -> bool
     ensures { result ≡ question5 kind low high }
 {
@@ -95,6 +98,7 @@ fn number_allowed(kind: u32, low: u32, high: u32) -> bool
 }
 
 // 6: whether a node's part of the list is inside the list, arguments few enough. Sums and doubles pass 32 bits.
+#[tactic(auto, unfolding(lowering::specs::Questions::question6))]
 fn part_inside(size: usize, kind: u32, a: u32, b: u32, c: u32) -> bool
     ensures { result ≡ question6 size kind a b c }
 {
@@ -106,6 +110,7 @@ fn part_inside(size: usize, kind: u32, a: u32, b: u32, c: u32) -> bool
 }
 
 // Whether a node that may be absent is lower than node i.
+#[tactic(auto, using(crate::proofs::Below::below_present))]
 fn absent_or_below(i: u32, child: u32) -> bool
     ensures { result ≡ all_below i (present child) }
 {
@@ -113,6 +118,7 @@ fn absent_or_below(i: u32, child: u32) -> bool
 }
 
 // Whether every argument of a call is lower than node i.
+#[tactic(auto, using(crate::proofs::Below::arguments_start, crate::proofs::Below::arguments_more, crate::proofs::Below::arguments_not, crate::proofs::Below::arguments_end))]
 fn arguments_below(list: &[u8], i: u32, first: u32, count: u32) -> bool
     requires { first + count ≤ length (words list.now) }
     ensures { result ≡ all_below i (take count (drop first (words list.now))) }
@@ -128,6 +134,7 @@ fn arguments_below(list: &[u8], i: u32, first: u32, count: u32) -> bool
 }
 
 // Whether every key of a map, and every value that is there, is lower than node i.
+#[tactic(auto, using(crate::proofs::Below::entries_start, crate::proofs::Below::entries_more, crate::proofs::Below::entries_not_key, crate::proofs::Below::entries_not_value, crate::proofs::Below::entries_end))]
 fn entries_below(list: &[u8], i: u32, first: u32, count: u32) -> bool
     requires { first + 2 * count ≤ length (words list.now) }
     ensures { result ≡ all_below i (entry_nodes (take (2 * count) (drop first (words list.now)))) }
@@ -147,6 +154,7 @@ fn entries_below(list: &[u8], i: u32, first: u32, count: u32) -> bool
 }
 
 // 7: whether every node that node i names is lower than itself.
+#[tactic(auto, using(crate::proofs::Below::below_one, crate::proofs::Below::below_two, crate::proofs::Below::below_two_more, crate::proofs::Tables::call_inside, crate::proofs::Tables::map_inside), unfolding(lowering::specs::Tree::children, lowering::specs::Questions::all_below))]
 fn children_below(list: &[u8], i: u32, kind: u32, a: u32, b: u32, c: u32) -> bool
     requires { question6 (length (words list.now)) kind a b c ≡ true }
     ensures { result ≡ all_below i (children (words list.now) (get_or node_kinds kind (λ x y z. Node.Nil) a b c)) }
@@ -168,6 +176,7 @@ fn children_below(list: &[u8], i: u32, kind: u32, a: u32, b: u32, c: u32) -> boo
 
 // Questions 3 to 7 of node i. Its words are read from its own bytes, a slice of known length: so the compiler leaves the test in `word` out. It also
 // makes one jump of the matches on the kind, so a node costs one jump and the comparisons of its kind, a call and a map too.
+#[tactic(auto, using(words::proofs::Words::length_words))]
 fn check_node(nodes: &[u8], list: &[u8], i: u32) -> CheckAnswer
     requires { i < capacity node_width (words nodes.now) }
     ensures { (names : List ℕ) (next : Verdict) → following result next ≡ ask_node (tree_of nodes.now list.now names) i next }
@@ -213,6 +222,7 @@ fn check_node(nodes: &[u8], list: &[u8], i: u32) -> CheckAnswer
 }
 
 // Questions 3 to 7 of each of `count` nodes, lowest first.
+#[tactic(auto, using(crate::proofs::Asked::nodes_start, crate::proofs::Asked::nodes_next, crate::proofs::Asked::nodes_end))]
 fn check_nodes(nodes: &[u8], list: &[u8], count: u32) -> CheckAnswer
     requires { count ≤ capacity node_width (words nodes.now) }
     ensures { (names : List ℕ) (next : Verdict) → following result next ≡ ask_nodes (tree_of nodes.now list.now names) count 0 next }

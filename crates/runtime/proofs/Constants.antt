@@ -112,7 +112,7 @@ words_of_bits_lem (Operand.Boolean false) a = refl
 words_of_bits_lem (Operand.Number x) a =
     let high : ℕ = number_bits x / 4294967296 in
     let below : high ≤ 4293918720 = number_high x a.0 a.1 in
-    rw (ne_eqb high tag_nil (λ e. omega arith), ne_eqb high tag_bool (λ e. omega arith), ne_eqb high tag_string (λ e. omega arith))
+    simp (ne_eqb high tag_nil (λ e. omega arith), ne_eqb high tag_bool (λ e. omega arith), ne_eqb high tag_string (λ e. omega arith))
 words_of_bits_lem (Operand.String symbol) a =
     let low : parts_bits symbol tag_string % 4294967296 ≡ symbol = omega arith in
     let high : parts_bits symbol tag_string / 4294967296 ≡ tag_string = omega arith in

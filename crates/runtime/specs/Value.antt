@@ -1,6 +1,6 @@
 -- "Constant, three words: kind (0 nil, 1 boolean, 2 number, 3 string), low, high. A boolean's 0 or 1 and a string's symbol stand in low;
 -- unused words are 0 here too."
-use Rattle.std.specs.Prelude.{ℕ, ◌+◌, ◌*◌, ◌/◌, ◌%◌, ◌<◌, List, [], ◌∷◌, ◌≢◌, Bool, true, cond, not, T, pos, Float}
+use Rattle.std.specs.Prelude.{ℕ, ◌+◌, ◌*◌, ◌/◌, ◌%◌, ◌<◌, List, [], ◌∷◌, ◌≢◌, true, cond, not, T, pos, Float}
 use Rattle.std.specs.Float.{fin, binary64}
 use Rattle.std.specs.Float.Ieee.{fits, is_nan, of_bits, to_bits}
 use Rattle.words.specs.Words.{word_end}

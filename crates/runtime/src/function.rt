@@ -24,6 +24,7 @@ pub fn emit_instruction(code: &mut [u8], count: u32, opcode: u32, a: u32, b: u32
 
 // Pools a constant. The answer is the place of the first of the `count` constants that is this one; if none is, the constant is put after them, and the answer is
 // its place, or FULL.
+#[tactic(auto, using(words::proofs::Records::appended_found), unfolding(crate::specs::Function::store_constant))]
 pub fn store_constant(constants: &mut [u8], count: u32, constant: Operand) -> u32
     ensures words { buffer (words constants.new) (appended count result Refusal.Constants) ≡ store_constant (words constants.old) count constant }
     ensures tail { tail constants.new ≡ tail constants.old }

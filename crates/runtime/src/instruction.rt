@@ -274,6 +274,7 @@ pub enum Instruction {
 }
 
 // Whether `patch_arguments` lists a kind: its first field is then a destination.
+#[tactic(auto, unfolding(crate::specs::Instruction::has_destination))]
 pub fn has_destination(kind: u32) -> bool
     ensures { result ≡ has_destination kind }
 {
@@ -296,6 +297,7 @@ pub fn has_destination(kind: u32) -> bool
 }
 
 // Which word of a jump is its offset; 0, the kind's own word, for a kind that is no jump.
+#[tactic(auto, unfolding(crate::specs::Instruction::offset_word))]
 pub fn offset_word(kind: u32) -> usize
     ensures { result ≡ offset_word kind }
 {

@@ -1,7 +1,7 @@
 // Operands (kaori's codegen/operand.rs): a register, or a constant that is not pooled yet.
 use environment::Register;
 
-#[derive(Drop)]
+#[derive(Clone, Copy)]
 pub enum Operand {
     Register(Register),
     Number(f64),

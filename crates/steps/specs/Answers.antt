@@ -1,6 +1,6 @@
 -- What a word of the walk means: a register, a destination, an operand, an answer. A contract of the walk equates the definition's outcome with what `seen` makes
 -- of the program's answer: whether it ended or stopped, with what, and all that is left.
-use Rattle.std.specs.Prelude.{ℕ, ◌+◌, ◌*◌, ◌-◌, ◌/◌, ◌%◌, ◌≤◌, ◌<◌, ◌≡◌, ◌⊎◌, Bool, true, false, cond, List, [], ◌∷◌, leb, ltb, eqb, get_or}
+use Rattle.std.specs.Prelude.{ℕ, ◌+◌, ◌*◌, ◌-◌, ◌/◌, ◌%◌, ◌≤◌, ◌<◌, ◌≡◌, ◌⊎◌, Bool, true, false, cond, [], ◌∷◌, leb, ltb, eqb, get_or}
 use Rattle.diagnostics.specs.declared.Refusal.{Refusal}
 use Rattle.diagnostics.specs.declared.Place.{Place}
 use Rattle.diagnostics.specs.declared.Error.{Error}

@@ -11,14 +11,14 @@ use lowering::State;
 use words::WORD_END;
 
 // The state afterwards, and the answer.
-#[derive(Drop)]
+#[derive(Clone, Copy)]
 pub struct AnswerAndState {
     pub state: State,
     pub answer: u64,
 }
 
 // The counts afterwards, and the answer, of a step that takes and gives back no register.
-#[derive(Drop)]
+#[derive(Clone, Copy)]
 pub struct AnswerAndCounts {
     pub instructions: u32,
     pub constants: u32,
@@ -45,6 +45,7 @@ pub fn local(number: u32) -> u32
 }
 
 // The number of a register, as a field of an instruction has it.
+#[tactic(auto, using(crate::proofs::Words::reg_of_register_at))]
 pub fn reg_of(register: u32) -> u32
     ensures { result ≡ reg_of (register_at register) }
 {
@@ -52,6 +53,7 @@ pub fn reg_of(register: u32) -> u32
 }
 
 // The register that was taken, or NONE.
+#[tactic(auto, unfolding(crate::specs::Answers::number_at))]
 pub fn number_at(place: Place) -> u32
     ensures { result ≡ number_at place }
 {
@@ -68,18 +70,21 @@ pub fn inner(node: u32) -> u64
     WORD_END + (node as u64)
 }
 
+#[tactic(auto, unfolding(crate::specs::Answers::is_inner))]
 pub fn is_inner(answer: u64) -> bool
     ensures { result ≡ is_inner answer }
 {
     answer / WORD_END == 1
 }
 
+#[tactic(auto, using(crate::proofs::Words::refusal_small), unfolding(crate::specs::Answers::refusal_at))]
 pub fn refusal_at(refusal: Refusal, place: u32) -> u64
     ensures { result ≡ refusal_at refusal place }
 {
     REFUSED + WORD_END * (refusal.number() as u64) + (place as u64)
 }
 
+#[tactic(auto, unfolding(crate::specs::Answers::is_refusal))]
 pub fn is_refusal(answer: u64) -> bool
     ensures { result ≡ is_refusal answer }
 {

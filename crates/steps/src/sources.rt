@@ -49,6 +49,7 @@ fn no_room(instructions: u32, pooled: u32, refusal: Refusal) -> AnswerAndCounts
 }
 
 // The instruction of an operator, with its result in d.
+#[tactic(auto, using(crate::proofs::Words::refusal_start_lem))]
 fn binary_end(
     code: &mut [u8],
     instructions: u32,
@@ -81,6 +82,7 @@ fn binary_end(
 }
 
 // The instruction of an operator where not both sources are literals, with its result in d. What the sources held is given back by the walk.
+#[tactic(auto, using(crate::proofs::Words::refusal_start_lem))]
 pub fn binary_sources(
     code: &mut [u8],
     constants: &mut [u8],
@@ -142,6 +144,7 @@ pub fn binary_sources(
 }
 
 // A fused jump. Its place is the answer.
+#[tactic(auto, using(crate::proofs::Words::refusal_start_lem))]
 fn jump_end(
     code: &mut [u8],
     instructions: u32,
@@ -169,6 +172,7 @@ fn jump_end(
 }
 
 // The jump of a comparison where not both sources are literals, taken where it gives `sense`. Its place is the answer.
+#[tactic(auto, using(crate::proofs::Words::refusal_start_lem))]
 pub fn fused_sources(
     code: &mut [u8],
     constants: &mut [u8],

@@ -19,6 +19,7 @@ use runtime::operand::Operand;
 use words::{FULL, counted};
 
 // The register asked for, else the smallest free one, which is taken.
+#[tactic(auto, using(crate::proofs::Words::refusal_start_lem))]
 pub fn destination(state: State, dest: u32) -> AnswerAndState
     ensures step { (t : Tree) (k p m : List ℕ) → settled (destination (dest_of dest) (made k p m state)) ≡ seen t register_at (made k p m result.state) result.answer }
     ensures word { dest ≤ any → RegisterOrRefusal result.answer }
@@ -40,6 +41,7 @@ pub fn destination(state: State, dest: u32) -> AnswerAndState
 }
 
 // Destination, pool, LoadConst.
+#[tactic(auto, using(crate::proofs::Words::refusal_start_lem))]
 pub fn load_constant(
     code: &mut [u8],
     constants: &mut [u8],

@@ -1,5 +1,5 @@
 -- "Node, six words: kind, a, b, c, span start, span end. Absent is 4294967295; unused words are 0."
-use Rattle.std.specs.Prelude.{ℕ, ◌+◌, ◌*◌, List, [], ◌∷◌, Bool, not, eqb, get_or}
+use Rattle.std.specs.Prelude.{ℕ, ◌+◌, ◌*◌, List, [], ◌∷◌, not, eqb, get_or}
 use Rattle.syntax.specs.declared.ast.Node.{Node}
 use Rattle.syntax.specs.Ops.{binary_op, unary_op}
 

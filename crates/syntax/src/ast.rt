@@ -64,6 +64,7 @@ pub enum Node {
 }
 
 // Word k of node i; 0 past the last whole word.
+#[tactic(auto, unfolding(crate::specs::Ast::node_word))]
 pub fn node_word(nodes: &[u8], i: u32, k: u32) -> u32
     ensures { result ≡ node_word (words nodes.now) i k }
 {

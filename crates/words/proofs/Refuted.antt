@@ -1,7 +1,7 @@
 -- What a search says can fail: `First` is false of another place. Assumes nothing.
 use Prim.Native.Nat.{ℕ}
 use native.Mathlib.Omega.{arith}
-use mathlib.Core.Bool.{false, true≢false, false≢true}
+use mathlib.Core.Bool.{true≢false, false≢true}
 use mathlib.Core.List.{List, [], ◌∷◌}
 use Rattle.words.specs.Records.{capacity, record_at, same_words, is_at, First}
 

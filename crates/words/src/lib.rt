@@ -35,6 +35,7 @@ fn wide(x: u8) -> u32
 }
 
 // The word at i, which is one of the whole words.
+#[tactic(auto, using(crate::proofs::Words::length_words, crate::proofs::Words::word_in))]
 fn whole_word(s: &[u8], i: usize) -> u32
     requires { i < length (words s.now) }
     ensures { result ≡ get_or (words s.now) i 0 }
@@ -46,6 +47,7 @@ fn whole_word(s: &[u8], i: usize) -> u32
 }
 
 // The word at i; 0 past the last whole word.
+#[tactic(auto, using(crate::proofs::Words::length_words, crate::proofs::Words::word_out))]
 pub fn word(s: &[u8], i: usize) -> u32
     ensures { result ≡ get_or (words s.now) i 0 }
 {
@@ -57,6 +59,7 @@ pub fn word(s: &[u8], i: usize) -> u32
 }
 
 // Sets the word at i, which is one of the whole words, to x.
+#[tactic(auto, using(crate::proofs::Words::length_words))]
 fn put_whole(s: &mut [u8], i: usize, x: u32)
     requires { i < length (words s.old) }
     ensures words { words s.new ≡ set (words s.old) i x }
@@ -69,6 +72,7 @@ fn put_whole(s: &mut [u8], i: usize, x: u32)
 }
 
 // Sets the word at i to x; past the last whole word nothing changes.
+#[tactic(auto, using(crate::proofs::Words::length_words, crate::proofs::Words::put_out))]
 pub fn put_word(s: &mut [u8], i: usize, x: u32)
     ensures words { words s.new ≡ set (words s.old) i x }
     ensures tail { tail s.new ≡ tail s.old }
@@ -108,6 +112,7 @@ pub fn put_words(s: &mut [u8], at: usize, xs: &[u32])
 }
 
 // The whole records of `width` words that a buffer holds.
+#[tactic(auto, using(crate::proofs::Words::length_words), unfolding(crate::specs::Records::capacity))]
 pub fn capacity(s: &[u8], width: usize) -> usize
     ensures { result ≡ capacity width (words s.now) }
 {
@@ -135,6 +140,7 @@ pub fn append(s: &mut [u8], count: u32, limit: u32, item: &[u32]) -> u32
 }
 
 // How many records there are once one is at `place`: a new one counts, one that was found does not.
+#[tactic(auto, using(crate::proofs::Records::appended_new, crate::proofs::Records::appended_full, crate::proofs::Records::appended_kept))]
 pub fn counted(count: u32, place: u32) -> u32
     ensures { (refusal : Refusal) → result ≡ (appended count place refusal).count }
 {

@@ -111,8 +111,8 @@ module _ (t : Tree) (E F : ℕ → Dest → Walk Operand) (i : ℕ) (same : (n :
     lower_node_same (Node.LogicalNot operand) dest b = rw (same operand b)
     lower_node_same (Node.LogicalAnd left right) dest b = rw (same left b.0, same right b.1)
     lower_node_same (Node.LogicalOr left right) dest b = rw (same left b.0, same right b.1)
-    lower_node_same (Node.If condition then_branch elseBranch) dest b =
-        let h : elseBranch ≢ absent → elseBranch < i = b.else in
+    lower_node_same (Node.If condition then_branch else_branch) dest b =
+        let h : else_branch ≢ absent → else_branch < i = b.else in
         rw (jumps condition b.condition, same then_branch b.then) (simp lower_else_same)
     lower_node_same (Node.Block tail) dest b = simp lower_tail_same
     lower_node_same (Node.FunctionCall callee first count) dest b =
@@ -148,7 +148,7 @@ module _ (t : Tree) (E F : ℕ → Dest → Walk Operand) (i : ℕ) (same : (n :
   jump_node_same sense own (Node.LogicalNot operand) b = refl
   jump_node_same sense own (Node.LogicalAnd left right) b = refl
   jump_node_same sense own (Node.LogicalOr left right) b = refl
-  jump_node_same sense own (Node.If condition then_branch elseBranch) b = refl
+  jump_node_same sense own (Node.If condition then_branch else_branch) b = refl
   jump_node_same sense own (Node.Block tail) b = refl
   jump_node_same sense own (Node.FunctionCall callee first count) b = refl
   jump_node_same sense own (Node.PropertyAccess object property) b = refl

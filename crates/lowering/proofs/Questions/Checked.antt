@@ -93,7 +93,7 @@ InRange size (Node.Unary operator operand) = Unit {0}
 InRange size (Node.LogicalNot operand) = Unit {0}
 InRange size (Node.LogicalAnd left right) = Unit {0}
 InRange size (Node.LogicalOr left right) = Unit {0}
-InRange size (Node.If condition then_branch elseBranch) = Unit {0}
+InRange size (Node.If condition then_branch else_branch) = Unit {0}
 InRange size (Node.Block tail) = Unit {0}
 InRange size (Node.FunctionCall callee first count) = (first + count ≤ size) × (count ≤ 255)
 InRange size (Node.PropertyAccess object property) = Unit {0}
@@ -153,12 +153,12 @@ module _ (t : Tree) (i : ℕ) where
   node_below (Node.LogicalNot operand) h f = below_head i operand _ h
   node_below (Node.LogicalAnd left right) h f = (below_head i left _ h, below_head i right _ (below_rest i left _ h))
   node_below (Node.LogicalOr left right) h f = (below_head i left _ h, below_head i right _ (below_rest i left _ h))
-  node_below (Node.If condition then_branch elseBranch) h f =
-      let others : all_below i (then_branch ∷ present elseBranch) ≡ true = below_rest i condition _ h in
+  node_below (Node.If condition then_branch else_branch) h f =
+      let others : all_below i (then_branch ∷ present else_branch) ≡ true = below_rest i condition _ h in
       record {
         condition = below_head i condition _ h;
         then = below_head i then_branch _ others;
-        else = below_present i elseBranch (below_rest i then_branch _ others);
+        else = below_present i else_branch (below_rest i then_branch _ others);
       }
   node_below (Node.Block tail) h f = below_present i tail h
   node_below (Node.FunctionCall callee first count) h f =

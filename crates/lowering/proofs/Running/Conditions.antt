@@ -303,8 +303,8 @@ module _ (M : Operators) (t : Tree) (args : ℕ → M.Value) (arity : ℕ) where
         (and_then (W c) (λ a. and_then (given (M.test a)) (λ b. cond b (W th) (cond (eqb el absent) undefined (W el))))))
         (lower_node free_temp t E J i (Node.If c th el) dest m)
     unfolding lower_node lower_else present
-    good_if J C goodJ c th el pc pt pe i dest m o tg =
-        chain (goodJ c pc m o) (λ j m1 jm.
+    good_if J C good_j c th el pc pt pe i dest m o tg =
+        chain (good_j c pc m o) (λ j m1 jm.
         let o1 : Owns arity m1 = grown_owns arity jm.grown o in
         chain (destination_good arity m1 dest o1 (target_later arity dest jm.grown tg)) (λ d m2 a.
         let o2 : Owns arity m2 = grown_owns arity a.grown o1 in

@@ -13,7 +13,7 @@ use Rattle.runtime.specs.Function.{max_instructions}
 use Rattle.lowering.specs.Tree.{Tree, tree_of}
 use Rattle.lowering.specs.Walk.{Made, made_of}
 use Rattle.lowering.specs.Result.{Lowered, begin, lower}
-use Rattle.lowering.specs.Trace.{Own, undeclared, registers, no_else_lem, no_value, code as code-own, constants as constants-own, unmarked, marks as marks-own, no_destination, sum, instructions_of, constants_of, marks_of}
+use Rattle.lowering.specs.Trace.{Own, undeclared, registers, without_else, no_value, code as code-own, constants as constants-own, unmarked, marks as marks-own, no_destination, sum, instructions_of, constants_of, marks_of}
 use Rattle.lowering.specs.Answers.{nothing_made, mark_count}
 use Rattle.lowering.specs.Pool.{Fit}
 use Rattle.lowering.proofs.Questions.Checked.{question1_sizes, question2_parts}
@@ -30,7 +30,7 @@ module _ {t : Tree} {root : ℕ} where
   own_constants (constants-own o u (inr h)) z f = absurd (omega arith)
   own_constants (undeclared r e f) z g = absurd (omega arith)
   own_constants (registers h) z g = absurd (omega arith)
-  own_constants (no_else_lem r e) z g = absurd (omega arith)
+  own_constants (without_else r e) z g = absurd (omega arith)
   own_constants (no_value k r e h n a) z g = absurd (omega arith)
   own_constants (code-own h) z g = absurd (omega arith)
   own_constants (unmarked r e x) z g = absurd (omega arith)
@@ -43,7 +43,7 @@ module _ {t : Tree} {root : ℕ} where
   own_marks (marks-own (inr h)) z f = absurd (omega arith)
   own_marks (undeclared r e f) z g = absurd (omega arith)
   own_marks (registers h) z g = absurd (omega arith)
-  own_marks (no_else_lem r e) z g = absurd (omega arith)
+  own_marks (without_else r e) z g = absurd (omega arith)
   own_marks (no_value k r e h n a) z g = absurd (omega arith)
   own_marks (code-own h) z g = absurd (omega arith)
   own_marks (constants-own o u h) z g = absurd (omega arith)

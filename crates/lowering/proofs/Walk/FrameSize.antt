@@ -192,7 +192,7 @@ module _ (nodes : List ℕ) (root mode : ℕ) (list names code constants marks :
         below_frame = x.sound.below;
         size = refl;
         one_more = x.by_highest ∙ ap (λ n. max n (highest r)) s.0;
-        most_held_lem = omega (arith, x.by_most, x.at_least, s.0, s.1);
+        held_most = omega (arith, x.by_most, x.at_least, s.0, s.1);
       }
   frames (stopped y q r o) e = absurd (omega (arith, (own_number o).0))
 

@@ -20,7 +20,7 @@ use Rattle.lowering.specs.Checked.{Checked, AllYes, FirstNo, no_size, no_root, n
 use Rattle.lowering.specs.Walk.{Made, Outcome, ends, stops, Walk}
 use Rattle.lowering.specs.Steps.{free_temp, free_held}
 use Rattle.lowering.specs.Result.{Lowered, result, lowered, begin, lower_root, lowered_of, lower_checked, lower_by, lower}
-use Rattle.lowering.specs.Trace.{Runs, step, returns, follows, halts, reads, counts, takes, gives, keeps as stays, emits, finds, pools, patches, marks as marking, moves, refuses, Own, undeclared, registers, no_else_lem, no_value, code, constants, unmarked, marks, no_destination, sum, registers_of, instructions_of, constants_of, Marked}
+use Rattle.lowering.specs.Trace.{Runs, step, returns, follows, halts, reads, counts, takes, gives, keeps as stays, emits, finds, pools, patches, marks as marking, moves, refuses, Own, undeclared, registers, without_else, no_value, code, constants, unmarked, marks, no_destination, sum, registers_of, instructions_of, constants_of, Marked}
 use Rattle.lowering.specs.Answers.{nothing_made}
 use Rattle.lowering.proofs.Questions.Checked.{questions_passed, questions_refused}
 use Rattle.lowering.proofs.Walk.RootRuns.{root_runs, root_same}
@@ -52,7 +52,7 @@ module _ {t : Tree} {root : ℕ} where
   pub own_number : {e : Error} {m : Made} → Own t root e m → (9 ≤ refusal_number e.refusal) × (refusal_number e.refusal ≤ 18)
   own_number (undeclared r e f) = (omega arith, omega arith)
   own_number (registers h) = (omega arith, omega arith)
-  own_number (no_else_lem r e) = (omega arith, omega arith)
+  own_number (without_else r e) = (omega arith, omega arith)
   own_number (no_value k r e h n a) = (omega arith, omega arith)
   own_number (code h) = (omega arith, omega arith)
   own_number (constants o u h) = (omega arith, omega arith)

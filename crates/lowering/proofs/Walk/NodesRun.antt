@@ -332,7 +332,7 @@ module _ (t : Tree) (root : ℕ) where
       where
         go : (b : Bool) → eqb branch absent ≡ b →
             Good t root (Settled m (Dest.To d)) (λ F. cond b (λ y. stops (error Refusal.Else i (span_start t i) (span_end t i)) y) (lower_materializing (E F branch) (Dest.To d))) m
-        go true z = stopped (error Refusal.Else i (span_start t i) (span_end t i)) (Own.no_else_lem reached (e ∙ ap (λ x. Node.If c a x) (eqb-true branch absent z)))
+        go true z = stopped (error Refusal.Else i (span_start t i) (span_end t i)) (Own.without_else reached (e ∙ ap (λ x. Node.If c a x) (eqb-true branch absent z)))
         go false z = child_good branch (p (eqb-false branch absent z)) (Dest.To d) m s r
 
     tail_good : (i tail : ℕ) → Reaches t root i → node t i ≡ Node.Block tail → (tail ≢ absent → P tail) → (d : Register) (m : Made) →

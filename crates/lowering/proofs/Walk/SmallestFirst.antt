@@ -163,7 +163,7 @@ module _ (t : Tree) (E : ℕ → Dest → Walk Operand) (J : ℕ → Walk ℕ) w
       (m, refl, taken_first m o r e (λ d. answers_bind _ (λ a. answers_bind _ (λ b. answers_bind _ (λ c. answers_bind _ (λ u. answers_ret _))))))
   node_first i (Node.LogicalOr left right) r m o e =
       (m, refl, taken_first m o r e (λ d. answers_bind _ (λ a. answers_bind _ (λ b. answers_bind _ (λ c. answers_bind _ (λ u. answers_ret _))))))
-  node_first i (Node.If condition then_branch elseBranch) r m o e =
+  node_first i (Node.If condition then_branch else_branch) r m o e =
       taken_after (J condition) m o r e
       (λ jump d. answers_bind _ (λ a. answers_bind _ (λ b. answers_bind _ (λ c. answers_bind _ (λ u. answers_bind _ (λ v. answers_ret _))))))
   node_first i (Node.Block tail) r m o e = (m, refl, taken_first m o r e (λ d. answers_bind _ (λ a. answers_ret _)))

@@ -27,7 +27,7 @@ use Rattle.lowering.specs.Steps.{free_temp}
 use Rattle.lowering.specs.Operators.{comparison}
 use Rattle.lowering.specs.Lower.{name_of, lower_materializing, lower_name, lower_arguments, lower_entry, lower_entries, lower_else, lower_tail, lower_node, test, fuse, jump_node, expression_below, jump_below, lower_expression, lower_jump_if_false, lower_jump_if_true}
 use Rattle.lowering.specs.Result.{lower_root}
-use Rattle.lowering.specs.Meets.{Part, left, right, operand, negated, and_left, and_right, or_left, or_right, condition, then_branch_lem, else_branch, tail, argument, called, object, key, value, Meets, here, below}
+use Rattle.lowering.specs.Meets.{Part, left, right, operand, negated, and_left, and_right, or_left, or_right, condition, then_part, else_part, tail, argument, called, object, key, value, Meets, here, below}
 
 -- a walk that never ends
 record Never {A : Type 0} (w : Walk A) : Type 0 where
@@ -63,7 +63,7 @@ never_right {A} {B} w {k} h = record { never = λ m n b e. go n b (w m) e }
 -- what is met and may not be
 pub data Bad (t : Tree) : Node → Type 0 where
   undeclared : {symbol : ℕ} → ((j : ℕ) → j < length t.names → get_or t.names j 0 ≢ symbol) → Bad t (Node.Identifier symbol)
-  no_else_lem : {c a : ℕ} → Bad t (Node.If c a absent)
+  without_else : {c a : ℕ} → Bad t (Node.If c a absent)
   no_value : {first count : ℕ} (k : ℕ) → k < count → name_of (node t (get_or t.list (first + 2 * k) 0)) ≡ none →
       get_or t.list (first + 2 * k + 1) 0 ≡ absent → Bad t (Node.Map first count)
 
@@ -88,7 +88,7 @@ module _ (t : Tree) (E : ℕ → Dest → Walk Operand) where
       go : (f : Found) → lookup t.names (length t.names) symbol ≡ f → Never (lower_name t i f dest)
       go (Found.At r) e = let k : Last t.names (length t.names) symbol r = lookup_found t.names (length t.names) symbol r e in absurd (h k.index k.in_range k.named)
       go (Found.Refused refusal) e = refused
-  never_bad no_else_lem J i dest = never_right _ (λ j. never_right _ (λ d. never_right _ (λ r. never_right _ (λ e. never_right _ (λ u. never_left _ refused)))))
+  never_bad without_else J i dest = never_right _ (λ j. never_right _ (λ d. never_right _ (λ r. never_right _ (λ e. never_right _ (λ u. never_left _ refused)))))
   never_bad (no_value {first = first} {count = count} k h e f) J i dest =
       never_right _ (λ d. never_right _ (λ p. never_left _ (never_entries d first k (entry d) count 0 (omega arith) (omega arith))))
     where
@@ -137,8 +137,8 @@ module _ (t : Tree) (E : ℕ → Dest → Walk Operand) where
   never_part {c = c} or_left h J j i dest = never_right _ (λ d. never_left _ (never_made c h (Dest.To d)))
   never_part {c = c} or_right h J j i dest = never_right _ (λ d. never_right _ (λ x. never_right _ (λ y. never_left _ (never_made c h (Dest.To d)))))
   never_part condition h J j i dest = never_left _ j
-  never_part {c = c} then_branch_lem h J j i dest = never_right _ (λ x. never_right _ (λ d. never_left _ (never_made c h (Dest.To d))))
-  never_part {c = c} (else_branch e) h J j i dest =
+  never_part {c = c} then_part h J j i dest = never_right _ (λ x. never_right _ (λ d. never_left _ (never_made c h (Dest.To d))))
+  never_part {c = c} (else_part e) h J j i dest =
       rw (ne_eqb c absent e) (never_right _ (λ x. never_right _ (λ d. never_right _ (λ r. never_right _ (λ p. never_right _ (λ u. never_left _ (never_made c h (Dest.To d))))))))
   never_part {c = c} (tail e) h J j i dest = rw (ne_eqb c absent e) (never_right _ (λ d. never_left _ (never_made c h (Dest.To d))))
   never_part {c = c} (argument {first = first} {count = count} k l) h J j i dest =
@@ -165,7 +165,7 @@ module _ (t : Tree) (E : ℕ → Dest → Walk Operand) where
     never_jump_bad : {n : Node} → Bad t n → Never (jump_node t E sense own n)
     unfolding jump_node
     never_jump_bad (undeclared h) = never_tested
-    never_jump_bad no_else_lem = never_tested
+    never_jump_bad without_else = never_tested
     never_jump_bad (no_value k h e f) = never_tested
 
     never_jump : {n : Node} {c : ℕ} → Part t n c → ((d : Dest) → Never (E c d)) → Never (jump_node t E sense own n)
@@ -179,8 +179,8 @@ module _ (t : Tree) (E : ℕ → Dest → Walk Operand) where
     never_jump or_left h = never_tested
     never_jump or_right h = never_tested
     never_jump condition h = never_tested
-    never_jump then_branch_lem h = never_tested
-    never_jump (else_branch e) h = never_tested
+    never_jump then_part h = never_tested
+    never_jump (else_part e) h = never_tested
     never_jump (tail e) h = never_tested
     never_jump (argument k l) h = never_tested
     never_jump called h = never_tested
@@ -245,7 +245,7 @@ module _ (t : Tree) where
         go (inr f) = absurd (met_fine m (rw q (undeclared f)))
 
     pub met_else : {i c a b : ℕ} → Meets t root i → node t i ≡ Node.If c a b → b ≢ absent
-    met_else {c = c} {a = a} m q z = met_fine m (rw (q, z) no_else_lem)
+    met_else {c = c} {a = a} m q z = met_fine m (rw (q, z) without_else)
 
     pub met_key : {i first count : ℕ} → Meets t root i → node t i ≡ Node.Map first count → (k : ℕ) → k < count → get_or t.list (first + 2 * k + 1) 0 ≡ absent →
         (name : ℕ) × (name_of (node t (get_or t.list (first + 2 * k) 0)) ≡ some name)

@@ -1,0 +1,43 @@
+-- `codegen::flat::literal_into` meets its contract: its do-block, a step a line.
+use Rattle.std.proofs.Common.{refl, sym, arith}
+use Rattle.diagnostics.specs.declared.Refusal.{Refusal}
+use Rattle.runtime.specs.Instruction.{words_of}
+use Rattle.lowering.specs.Walk.{bind}
+use Rattle.lowering.specs.Steps.{destination, load_constant}
+use Rattle.steps.specs.Answers.{register_at, settled}
+use Rattle.steps.proofs.Chains.{seen_word, then_stored, stop_stored, then_emitted, stop_emitted}
+use Rattle.codegen.proofs.FlatNodes.{needing_none, needing_given}
+use Rattle.codegen.proofs.flat.literal_into.Goals as goal
+
+pub returns-then-d-eq-NONE-clause-step : goal.returns-then-d-eq-NONE-clause-step
+returns-then-d-eq-NONE-clause-step c = rw (c.left_alone.ensures, c.refusal_at.ensures) (λ t rs n m. needing_none _ _ _ t register_at c.if-d-eq-NONE.true)
+
+pub returns-then-k-clause-step : goal.returns-then-k-clause-step
+unfolding load_constant destination bind
+returns-then-k-clause-step c =
+    let pooled = rw c.literal.ensures at c.store_constant-k.ensures.words in
+    rw (c.left_alone-then-k.ensures, c.refusal_at-then-k.ensures)
+    (λ t rs n m. needing_given _ _ _ c.if-d-eq-NONE.false (stop_stored t _ _ _ _ pooled register_at c.if-k.true))
+
+pub returns-then-n-clause-step : goal.returns-then-n-clause-step
+unfolding load_constant destination bind words_of
+returns-then-n-clause-step c =
+    let pooled = rw c.literal.ensures at c.store_constant-k.ensures.words in
+    let emitted = rw c.reg_of.ensures at c.emit_instruction-n.ensures.words in
+    rw (c.left_alone-then-n.ensures, c.refusal_at-then-n.ensures)
+    (λ t rs n m.
+    needing_given _ _ _ c.if-d-eq-NONE.false
+    (then_stored t _ _ _ _ pooled c.if-k.false (c.counted-count.ensures Refusal.Constants)
+    (stop_emitted t _ _ _ _ refl emitted register_at c.if-n.true)))
+
+pub returns-clause-step : goal.returns-clause-step
+unfolding load_constant destination bind words_of settled
+returns-clause-step c =
+    let pooled = rw c.literal.ensures at c.store_constant-k.ensures.words in
+    let emitted = rw c.reg_of.ensures at c.emit_instruction-n.ensures.words in
+    rw c.left_alone-2.ensures
+    (λ t rs n m.
+    needing_given _ _ _ c.if-d-eq-NONE.false
+    (then_stored t _ _ _ _ pooled c.if-k.false (c.counted-count.ensures Refusal.Constants)
+    (then_emitted t _ _ _ _ refl emitted c.if-n.false (c.counted.ensures Refusal.Code)
+    (sym (seen_word t register_at _ _ (omega (arith, c.ranges.d)))))))
