@@ -1,0 +1,4 @@
+pub mod Records
+pub mod Hiding
+pub mod Positions
+pub mod Index

@@ -1,0 +1,2 @@
+pub mod Hidden
+pub mod Index
