@@ -26,6 +26,7 @@ use Rattle.codegen.proofs.Conditions.{between, past, one_of_two, literal_left, l
 use Rattle.codegen.proofs.Entries.{below_absent, past_name, valued, leaf_key, key_and_value, store_both, entries_none, entries_again, entries_stop, at_next}
 use Rattle.codegen.proofs.lower_expression.+walk.Goals as goal
 use Rattle.codegen.proofs.lower_expression.+walk.Goals.{lower_map-then-is_inner+else-is_refusal-2, lower_map-else-is_inner+else-is_refusal-3, test-then-node_word-lt-IDENTIFIER, test-else-node_word-lt-IDENTIFIER}
+
 -- ---- the arguments of a call
 
 pub arguments-loop-i-init : goal.arguments-loop-i-init
@@ -731,21 +732,20 @@ lower_map-returns-then-is_refusal-3 t c =
 
 -- where the two ways meet: the entry was walked, or done in place
 pub lower_map-loop-i-preserved : goal.lower_map-loop-i-preserved
-lower_map-loop-i-preserved t c =
-    (
-      omega (arith, c.loop-i-test.true),
-      elim c.if-is_inner.branch [
-        lower_map-then-is_inner+else-is_refusal-2 w ↦
-          let left = c.flat_entry-f.ensures.inner (sym c.is_inner.ensures ∙ w.if-is_inner.true) in
-          at_next _ _ _ _ _ _ w.code-is w.constants-is w.marks-is w.s-is
-          (entries_again _ _ _ _ _ _ _ _ c.loop-i.invariant.1 _ _ _ _ c.loop-i-test.true c.word-key.ensures c.word-value.ensures (rw (left.1.0, left.1.1.0) at w.entry-r.ensures)
-          w.is_refusal-then-is_inner.ensures w.if-is_refusal-2.false)
-        | lower_map-else-is_inner+else-is_refusal-3 w ↦
-          at_next _ _ _ _ _ _ w.code-is w.constants-is w.marks-is w.s-is
-          (entries_again _ _ _ _ _ _ _ _ c.loop-i.invariant.1 _ _ _ _ c.loop-i-test.true c.word-key.ensures c.word-value.ensures (c.flat_entry-f.ensures.step _ _ _ _ (sym c.is_inner.ensures ∙ w.if-is_inner.false))
-          w.is_refusal-else-is_inner.ensures w.if-is_refusal-3.false)
-      ],
-    )
+lower_map-loop-i-preserved t c = (
+  omega (arith, c.loop-i-test.true),
+  elim c.if-is_inner.branch [
+    | lower_map-then-is_inner+else-is_refusal-2 w ↦
+        let left = c.flat_entry-f.ensures.inner (sym c.is_inner.ensures ∙ w.if-is_inner.true) in
+        at_next _ _ _ _ _ _ w.code-is w.constants-is w.marks-is w.s-is
+        (entries_again _ _ _ _ _ _ _ _ c.loop-i.invariant.1 _ _ _ _ c.loop-i-test.true c.word-key.ensures c.word-value.ensures (rw (left.1.0, left.1.1.0) at w.entry-r.ensures)
+        w.is_refusal-then-is_inner.ensures w.if-is_refusal-2.false)
+    | lower_map-else-is_inner+else-is_refusal-3 w ↦
+        at_next _ _ _ _ _ _ w.code-is w.constants-is w.marks-is w.s-is
+        (entries_again _ _ _ _ _ _ _ _ c.loop-i.invariant.1 _ _ _ _ c.loop-i-test.true c.word-key.ensures c.word-value.ensures (c.flat_entry-f.ensures.step _ _ _ _ (sym c.is_inner.ensures ∙ w.if-is_inner.false))
+        w.is_refusal-else-is_inner.ensures w.if-is_refusal-3.false)
+  ],
+)
 
 pub lower_map-returns : goal.lower_map-returns
 unfolding lower_node words_of settled
@@ -888,16 +888,16 @@ test-returns-then-is_refusal t c =
     let kind = c.node_word.ensures in
     -- its value, by either way
     let value : Lowers (λ t. register_at) (λ t. lower_materializing (lower_expression free_temp t c.args.node) Dest.Any) c.args.nodes.now c.args.list.now c.args.names.now
-        c.args.code.now c.args.constants.now c.args.marks.now c.if-node_word-lt-IDENTIFIER.code c.if-node_word-lt-IDENTIFIER.constants c.if-node_word-lt-IDENTIFIER.marks c.args.state c.if-node_word-lt-IDENTIFIER.r =
-        elim c.if-node_word-lt-IDENTIFIER.branch [
-          test-then-node_word-lt-IDENTIFIER w ↦
-            at_meeting tree register_at w.code-is w.constants-is w.marks-is w.r-is
-            (literal_value c.requires.0 c.args.node (omega (arith, kind, w.if-node_word-lt-IDENTIFIER.true)) Dest.Any _
-            (rw (w.literal.ensures, dest_of_any) at (w.load_constant-r.ensures.step tree (words c.args.marks.now))))
-          | test-else-node_word-lt-IDENTIFIER w ↦
-            at_meeting tree register_at w.code-is w.constants-is w.marks-is w.r-is
-            (answered_value c.requires.0 c.args.node (omega (arith, kind, w.if-node_word-lt-IDENTIFIER.false)) Dest.Any _ _ _ (rw dest_of_any at w.lower_expression-r.ensures))
-        ] in
+    c.args.code.now c.args.constants.now c.args.marks.now c.if-node_word-lt-IDENTIFIER.code c.if-node_word-lt-IDENTIFIER.constants c.if-node_word-lt-IDENTIFIER.marks c.args.state c.if-node_word-lt-IDENTIFIER.r =
+    elim c.if-node_word-lt-IDENTIFIER.branch [
+      | test-then-node_word-lt-IDENTIFIER w ↦
+          at_meeting tree register_at w.code-is w.constants-is w.marks-is w.r-is
+          (literal_value c.requires.0 c.args.node (omega (arith, kind, w.if-node_word-lt-IDENTIFIER.true)) Dest.Any _
+          (rw (w.literal.ensures, dest_of_any) at (w.load_constant-r.ensures.step tree (words c.args.marks.now))))
+      | test-else-node_word-lt-IDENTIFIER w ↦
+          at_meeting tree register_at w.code-is w.constants-is w.marks-is w.r-is
+          (answered_value c.requires.0 c.args.node (omega (arith, kind, w.if-node_word-lt-IDENTIFIER.false)) Dest.Any _ _ _ (rw dest_of_any at w.lower_expression-r.ensures))
+    ] in
     stop_by _ _ register_at _ _ _ value place_at c.is_refusal.ensures c.if-is_refusal.true
 
 pub test-returns-then-n : goal.test-returns-then-n
@@ -907,16 +907,16 @@ test-returns-then-n t c =
     let kind = c.node_word.ensures in
     -- its value, by either way
     let value : Lowers (λ t. register_at) (λ t. lower_materializing (lower_expression free_temp t c.args.node) Dest.Any) c.args.nodes.now c.args.list.now c.args.names.now
-        c.args.code.now c.args.constants.now c.args.marks.now c.if-node_word-lt-IDENTIFIER.code c.if-node_word-lt-IDENTIFIER.constants c.if-node_word-lt-IDENTIFIER.marks c.args.state c.if-node_word-lt-IDENTIFIER.r =
-        elim c.if-node_word-lt-IDENTIFIER.branch [
-          test-then-node_word-lt-IDENTIFIER w ↦
-            at_meeting tree register_at w.code-is w.constants-is w.marks-is w.r-is
-            (literal_value c.requires.0 c.args.node (omega (arith, kind, w.if-node_word-lt-IDENTIFIER.true)) Dest.Any _
-            (rw (w.literal.ensures, dest_of_any) at (w.load_constant-r.ensures.step tree (words c.args.marks.now))))
-          | test-else-node_word-lt-IDENTIFIER w ↦
-            at_meeting tree register_at w.code-is w.constants-is w.marks-is w.r-is
-            (answered_value c.requires.0 c.args.node (omega (arith, kind, w.if-node_word-lt-IDENTIFIER.false)) Dest.Any _ _ _ (rw dest_of_any at w.lower_expression-r.ensures))
-        ] in
+    c.args.code.now c.args.constants.now c.args.marks.now c.if-node_word-lt-IDENTIFIER.code c.if-node_word-lt-IDENTIFIER.constants c.if-node_word-lt-IDENTIFIER.marks c.args.state c.if-node_word-lt-IDENTIFIER.r =
+    elim c.if-node_word-lt-IDENTIFIER.branch [
+      | test-then-node_word-lt-IDENTIFIER w ↦
+          at_meeting tree register_at w.code-is w.constants-is w.marks-is w.r-is
+          (literal_value c.requires.0 c.args.node (omega (arith, kind, w.if-node_word-lt-IDENTIFIER.true)) Dest.Any _
+          (rw (w.literal.ensures, dest_of_any) at (w.load_constant-r.ensures.step tree (words c.args.marks.now))))
+      | test-else-node_word-lt-IDENTIFIER w ↦
+          at_meeting tree register_at w.code-is w.constants-is w.marks-is w.r-is
+          (answered_value c.requires.0 c.args.node (omega (arith, kind, w.if-node_word-lt-IDENTIFIER.false)) Dest.Any _ _ _ (rw dest_of_any at w.lower_expression-r.ensures))
+    ] in
     let told = c.jump_if.ensures _ ∙ same_fields _ c.reg_of.ensures refl refl in
     by_answer _ _ _ _ _ _ (c.refused.ensures.state, c.refused.ensures.answer)
     (then_by _ _ register_at _ _ _ value c.is_refusal.ensures c.if-is_refusal.false c.value_of-src.ensures
@@ -929,16 +929,16 @@ test-returns t c =
     let kind = c.node_word.ensures in
     -- its value, by either way
     let value : Lowers (λ t. register_at) (λ t. lower_materializing (lower_expression free_temp t c.args.node) Dest.Any) c.args.nodes.now c.args.list.now c.args.names.now
-        c.args.code.now c.args.constants.now c.args.marks.now c.if-node_word-lt-IDENTIFIER.code c.if-node_word-lt-IDENTIFIER.constants c.if-node_word-lt-IDENTIFIER.marks c.args.state c.if-node_word-lt-IDENTIFIER.r =
-        elim c.if-node_word-lt-IDENTIFIER.branch [
-          test-then-node_word-lt-IDENTIFIER w ↦
-            at_meeting tree register_at w.code-is w.constants-is w.marks-is w.r-is
-            (literal_value c.requires.0 c.args.node (omega (arith, kind, w.if-node_word-lt-IDENTIFIER.true)) Dest.Any _
-            (rw (w.literal.ensures, dest_of_any) at (w.load_constant-r.ensures.step tree (words c.args.marks.now))))
-          | test-else-node_word-lt-IDENTIFIER w ↦
-            at_meeting tree register_at w.code-is w.constants-is w.marks-is w.r-is
-            (answered_value c.requires.0 c.args.node (omega (arith, kind, w.if-node_word-lt-IDENTIFIER.false)) Dest.Any _ _ _ (rw dest_of_any at w.lower_expression-r.ensures))
-        ] in
+    c.args.code.now c.args.constants.now c.args.marks.now c.if-node_word-lt-IDENTIFIER.code c.if-node_word-lt-IDENTIFIER.constants c.if-node_word-lt-IDENTIFIER.marks c.args.state c.if-node_word-lt-IDENTIFIER.r =
+    elim c.if-node_word-lt-IDENTIFIER.branch [
+      | test-then-node_word-lt-IDENTIFIER w ↦
+          at_meeting tree register_at w.code-is w.constants-is w.marks-is w.r-is
+          (literal_value c.requires.0 c.args.node (omega (arith, kind, w.if-node_word-lt-IDENTIFIER.true)) Dest.Any _
+          (rw (w.literal.ensures, dest_of_any) at (w.load_constant-r.ensures.step tree (words c.args.marks.now))))
+      | test-else-node_word-lt-IDENTIFIER w ↦
+          at_meeting tree register_at w.code-is w.constants-is w.marks-is w.r-is
+          (answered_value c.requires.0 c.args.node (omega (arith, kind, w.if-node_word-lt-IDENTIFIER.false)) Dest.Any _ _ _ (rw dest_of_any at w.lower_expression-r.ensures))
+    ] in
     let told = c.jump_if.ensures _ ∙ same_fields _ c.reg_of.ensures refl refl in
     by_answer _ _ _ _ _ _ (c.answered.ensures.state, c.answered.ensures.answer)
     (then_by _ _ register_at _ _ _ value c.is_refusal.ensures c.if-is_refusal.false c.value_of-src.ensures
