@@ -5,25 +5,27 @@ ghost use Rattle.std.specs.Prelude.{◌≡◌, List, ℕ, ◌≤◌, ◌<◌, le
 ghost use Rattle.listing.specs.Text.{longest_text};
 ghost use Rattle.listing.specs.Output.{longest_listing, lowerlist};
 
-use libc::{STDIN_FILENO, STDOUT_FILENO};
+use input::read_full;
 use lower_text::{list, listing_buffer, text_buffer};
+use std::io;
+use std::io::Write;
 
 // Lists an input of which the first `size` bytes of `text` were read: the whole input, or as much of it as `text` holds. What is printed is the listing of the
 // whole input in both cases: an input longer than the longest good text is bad, whatever follows.
 fn list_input(text: &[u8], size: usize, out: &mut [u8]) -> usize
-    requires longest_text_in_bounds { longest_text < length text.now }
-    requires size_in_bounds { size ≤ length text.now }
-    requires longest_listing_value { longest_listing ≡ length out.old }
+    requires text_room { longest_text < length text.now }
+    requires size_within { size ≤ length text.now }
+    requires listing_room { longest_listing ≡ length out.old }
     ensures fits { result ≤ longest_listing }
     ensures bytes { (input : List ℕ) → take size text.now ≡ take (length text.now) input → take result out.new ≡ lowerlist input }
 {
     list(&text[..size], out)
 }
 
-fn main() {
+fn main(rt: HostRuntime) -> io::Result<()> {
     let mut text = text_buffer();
     let mut out = listing_buffer();
-    let size = io::read_full(STDIN_FILENO, &mut text);
+    let size = read_full(&mut rt.stdin(), &mut text)?;
     let printed = list_input(&text, size, &mut out);
-    io::write_all(STDOUT_FILENO, &out[..printed]);
+    rt.stdout().write_all(&out[..printed])
 }

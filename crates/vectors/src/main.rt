@@ -7,10 +7,12 @@ ghost use Rattle.listing.specs.Output.{lowerlist};
 ghost use Rattle.vectors.specs.Answers.{record_bytes, line_end, comments_end, number, case_at, outcome};
 
 use check::same;
-use libc::STDOUT_FILENO;
+use input::read_full;
 use listing::column::{COLUMN_BYTES, Column, read_column};
 use listing::text::LINE_FEED;
 use lower_text::{list, listing_buffer};
+use std::io::Write;
+use std::{fs, io};
 
 // More bytes than the record has. A record that fills the buffer is cut, and its last cases do not agree.
 const RECORD_BYTES: usize = 1572864;
@@ -47,6 +49,7 @@ fn agrees(text: &[u8], answer: &[u8]) -> bool
 }
 
 // The number in the column at `at`; 0 where there is none.
+#[tactic(auto, unfolding(crate::specs::Answers::column_number))]
 fn number(s: &[u8], at: usize) -> u32
     ensures { result ≡ number s.now at }
 {
@@ -59,6 +62,7 @@ fn number(s: &[u8], at: usize) -> u32
 }
 
 // The end of the line at `at`: past its line feed, or the end of `s`.
+#[tactic(auto, using(crate::proofs::Laws::line_end_out, crate::proofs::Laws::line_end_feed, crate::proofs::Laws::line_end_more))]
 fn line_end(s: &[u8], at: usize) -> usize
     requires { at ≤ length s.now }
     ensures end { result ≡ line_end s.now at }
@@ -75,6 +79,7 @@ fn line_end(s: &[u8], at: usize) -> usize
 }
 
 // The end of the lines that begin with '#'.
+#[tactic(auto, using(crate::proofs::Laws::comments_out, crate::proofs::Laws::comments_none, crate::proofs::Laws::comments_more, crate::proofs::Laws::line_end_past))]
 fn comments_end(s: &[u8]) -> usize
     ensures { result ≡ comments_end s.now }
 {
@@ -89,6 +94,7 @@ fn comments_end(s: &[u8]) -> usize
 }
 
 // The case whose line begins at `at`.
+#[tactic(auto, unfolding(crate::specs::Answers::case_at))]
 fn case_at(answers: &[u8], at: usize) -> Case
     requires { at ≤ length answers.now }
     ensures { result ≡ case_at answers.now at }
@@ -100,6 +106,7 @@ fn case_at(answers: &[u8], at: usize) -> Case
 }
 
 // Replays the cases of a record, up to the first that is not whole.
+#[tactic(auto, using(crate::proofs::Laws::comments_within, crate::proofs::Laws::case_ordered))]
 fn replay(answers: &[u8]) -> Outcome
     ensures outcome { result ≡ outcome answers.now }
     ensures within { result.differing ≤ length answers.now }
@@ -135,22 +142,19 @@ fn replay(answers: &[u8]) -> Outcome
 }
 
 // Prints what a replay gave.
-fn report(answers: &[u8], r: Outcome)
+fn report<R: Print>(rt: &R, answers: &[u8], r: Outcome) -> io::Result<()>
     requires { r.differing ≤ length answers.now }
 {
-    io::print_decimal(STDOUT_FILENO, r.agreeing as u64);
-    io::write_all(STDOUT_FILENO, b" of ");
-    io::print_decimal(STDOUT_FILENO, r.cases as u64);
-    io::write_all(STDOUT_FILENO, b" answers agree\n");
+    let agreeing = r.agreeing;
+    let cases = r.cases;
+    println!(rt; "{agreeing} of {cases} answers agree")?;
     let differing = r.differing;
     let end = line_end(answers, differing);
-    io::write_all(STDOUT_FILENO, &answers[differing..end]);
+    io::writer(rt).write_all(&answers[differing..end])?;
     if r.end != answers.len() {
-        io::write_all(
-            STDOUT_FILENO,
-            b"the record is cut, or goes on behind its last case\n",
-        );
+        println!(rt; "the record is cut, or goes on behind its last case")?;
     }
+    Ok(())
 }
 
 // Zeros, for the record. The `ensures` gives only the length, which lending the array as a slice needs.
@@ -160,11 +164,9 @@ fn buffer() -> [u8; RECORD_BYTES]
     [0; RECORD_BYTES]
 }
 
-fn main() {
+fn main(rt: HostRuntime) -> io::Result<()> {
     let mut answers = buffer();
-    let fd = os::open_read(b"answers.txt");
-    let size = io::read_full(fd, &mut answers);
-    libc::close(fd);
+    let size = read_full(&mut fs::open(&rt, "answers.txt")?, &mut answers)?;
     let r = replay(&answers[..size]);
-    report(&answers[..size], r);
+    report(&rt, &answers[..size], r)
 }
