@@ -1,5 +1,5 @@
 -- Flat nodes: literals, names, and operators on these, not on two literals. They are lowered in place, on two counts, with no call of the walk.
-use Rattle.std.specs.Prelude.{ℕ, ◌≤◌, ◌<◌, ◌≡◌, ◌≢◌, ◌⊎◌, Bool, true, false, cond, ◌&&◌, ◌||◌, List, leb, ltb, eqb, length}
+use Rattle.std.specs.Prelude.{ℕ, ◌≤◌, ◌<◌, ◌≡◌, ◌≢◌, ◌⊎◌, Bool, cond, ◌&&◌, ◌||◌, List, leb, ltb, eqb, length}
 use Rattle.diagnostics.specs.declared.Refusal.{Refusal}
 use Rattle.words.specs.Words.{words}
 use Rattle.environment.specs.declared.Found.{Found}
@@ -8,7 +8,7 @@ use Rattle.runtime.specs.declared.operand.Operand.{Operand}
 use Rattle.lowering.specs.declared.Dest.{Dest}
 use Rattle.lowering.specs.declared.State.{State}
 use Rattle.lowering.specs.Tree.{Tree, node}
-use Rattle.lowering.specs.Walk.{stops, Walk, bind, ◌>>=◌, ret, unnamed}
+use Rattle.lowering.specs.Walk.{stops, Walk, ◌>>=◌, ret, unnamed}
 use Rattle.lowering.specs.Steps.{free_temp, load_constant}
 use Rattle.lowering.specs.Literals.{literal}
 use Rattle.lowering.specs.Lower.{lower_expression}

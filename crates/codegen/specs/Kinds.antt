@@ -8,7 +8,7 @@ use Rattle.runtime.specs.Operands.{reg_of}
 use Rattle.operators.specs.Opcodes.{is_comparison}
 use Rattle.lowering.specs.declared.Dest.{Dest}
 use Rattle.lowering.specs.Tree.{Tree, node}
-use Rattle.lowering.specs.Walk.{Walk, bind, ◌>>=◌, ◌>>◌, ret}
+use Rattle.lowering.specs.Walk.{Walk, ◌>>=◌, ◌>>◌, ret}
 use Rattle.lowering.specs.Steps.{free_temp, emit, load_constant}
 use Rattle.lowering.specs.Operators.{binary_rr}
 use Rattle.lowering.specs.Literals.{literal}

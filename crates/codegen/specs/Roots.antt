@@ -1,7 +1,7 @@
 -- The root as a condition, which the program lowers by one function for both outcomes.
 use Rattle.std.specs.Prelude.{ℕ, Bool}
 use Rattle.lowering.specs.Tree.{Tree, node}
-use Rattle.lowering.specs.Walk.{Walk, bind, ◌>>=◌, ◌>>◌, ret}
+use Rattle.lowering.specs.Walk.{Walk, ◌>>=◌, ◌>>◌, ret}
 use Rattle.lowering.specs.Steps.{free_temp, patch_arguments}
 use Rattle.lowering.specs.Lower.{jump_node, lower_expression}
 

@@ -253,6 +253,7 @@ fn lower_literals(
 }
 
 // The operand of a unary operator or of not, and its opcode.
+#[tactic(auto, unfolding(crate::specs::Kinds::only_operand))]
 fn only_operand(nodes: &[u8], node: u32) -> u32
     requires { InArena nodes.now node }
     ensures { result ≡ only_operand nodes.now node }
@@ -263,6 +264,7 @@ fn only_operand(nodes: &[u8], node: u32) -> u32
     node_word(nodes, node, 1)
 }
 
+#[tactic(auto, unfolding(runtime::specs::Instruction::words_of))]
 fn only_opcode(nodes: &[u8], node: u32) -> u32
     requires { InArena nodes.now node }
     ensures unary { node_word_of nodes.now node 0 ≡ unary_kind → (d a : ℕ) → words_of (unary (unary_op (node_word_of nodes.now node 1)) d a) ≡ result ∷ d ∷ a ∷ 0 ∷ [] }
@@ -318,6 +320,7 @@ fn lower_unary(
 }
 
 // The jump over the right side of and, or.
+#[tactic(auto, unfolding(runtime::specs::Instruction::words_of))]
 fn logical_jump(nodes: &[u8], node: u32) -> u32
     requires { InArena nodes.now node }
     ensures and { node_word_of nodes.now node 0 ≡ and_kind → (a : ℕ) → words_of (Instruction.JumpIfFalse a 0) ≡ result ∷ a ∷ 0 ∷ 0 ∷ [] }
@@ -810,6 +813,7 @@ fn lower_jump_if_false(
 }
 
 // A root as a condition: `lower_jump_if_false` and `lower_jump_if_true`, by the outcome at which the jump is taken.
+#[tactic(auto, using(crate::proofs::Conditions::not_compared))]
 pub(crate) fn lower_jump_if(
     nodes: &[u8],
     list: &[u8],
@@ -836,6 +840,7 @@ pub(crate) fn lower_jump_if(
 }
 
 // Whether a condition is a comparison, whose jump is fused.
+#[tactic(auto, using(crate::proofs::Reading::node_other), unfolding(crate::specs::Kinds::is_compared, syntax::specs::Ast::node_at))]
 fn is_compared(nodes: &[u8], node: u32) -> bool
     requires { InArena nodes.now node }
     ensures { result ≡ is_compared (node_at (words nodes.now) node) }

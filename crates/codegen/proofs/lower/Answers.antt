@@ -1,5 +1,5 @@
 -- `codegen::lower` meets its contract. Assumes nothing.
-use Rattle.std.proofs.Common.{sym, ap, ◌∙◌, arith}
+use Rattle.std.proofs.Common.{sym, ap, ◌∙◌}
 use Rattle.questions.specs.Verdict.{verdict}
 use Rattle.codegen.proofs.Laws.{not_lowered}
 use Rattle.codegen.proofs.lower.Goals as goal

@@ -1,5 +1,5 @@
 -- `codegen::lower_root` meets its contract. Assumes nothing.
-use Rattle.std.proofs.Common.{rules, arith}
+use Rattle.std.proofs.Common.{rules}
 use Rattle.codegen.proofs.Laws.{mode_false, mode_true}
 use Rattle.codegen.proofs.lower_root.Goals as goal
 

@@ -1,36 +1,32 @@
 -- The needs of the walk, arm by arm. Each returns what its clause of the definition gives, a step a line. Assumes nothing.
-use Rattle.std.proofs.Common.{rules, ◌≡◌, refl, sym, ap, ◌∙◌, inl, inr, arith, length}
+use Rattle.std.proofs.Common.{refl, sym, ◌∙◌, inr, arith}
 use native.Mathlib.Nat.{sub-zero}
 use borrow.Author.Tests.{eq-eqb, ne_eqb}
 use Rattle.diagnostics.specs.declared.Refusal.{Refusal}
 use Rattle.words.specs.Words.{words}
 use Rattle.runtime.specs.Instruction.{words_of}
 use Rattle.lowering.specs.declared.Dest.{Dest}
-use Rattle.lowering.specs.Tree.{Tree, tree_of}
-use Rattle.lowering.specs.Walk.{made}
+use Rattle.lowering.specs.Tree.{tree_of}
 use Rattle.lowering.specs.Steps.{free_temp}
 use Rattle.lowering.specs.Lower.{lower_materializing, lower_node, lower_tail, test, lower_expression}
 use Rattle.lowering.proofs.Questions.Checked.{kind_word, checked_at}
 use Rattle.lowering.proofs.Bound.Lowering.{jump_false_at}
-use Rattle.steps.specs.Answers.{any, register_at, dest_of, operand_at, place_at, unit_at, settled, seen}
+use Rattle.steps.specs.Answers.{register_at, dest_of, operand_at, place_at, unit_at, settled}
 use Rattle.steps.proofs.Words.{dest_of_any, dest_of_to, source_operand}
 use Rattle.steps.proofs.Chains.{then, then_by, stop_by, then_done, then_stored, stop_stored, then_emitted, stop_emitted, then_marked, stop_marked, last, seen_word}
 use Rattle.codegen.specs.Ready.{Lowers}
-use Rattle.codegen.specs.Kinds.{unary_kind, and_kind, block_kind, map_kind}
+use Rattle.codegen.specs.Kinds.{block_kind, map_kind}
 use Rattle.codegen.proofs.Walk.{falling, below_of, expression_of, then_freed, then_freed_source, then_patched, ended}
 use Rattle.codegen.proofs.Children.{child_seen, walk_requires, operand_of, register_of, into_of}
 use Rattle.codegen.proofs.FlatNodes.{given_operand}
 use Rattle.codegen.proofs.Operands.{register_word, operated, single_words, single_below, single_of, fetched, property_below, property_of, operator_below, operator_of, both_literal, word_literal, then_literals, then_operator}
 use Rattle.codegen.proofs.Branches.{then_branch_lem, stop_branch, same_fields, by_answer, lower_logical, logical_below, logical_of, jump_words, if_below, if_of, then_else, stop_else, call_below, call_of, arguments_of, arguments_none, then_argument, marked, stop_unmarked}
-use Rattle.codegen.proofs.Conditions.{between, past, one_of_two, literal_left, literal_value, answered_value, at_meeting, not_compared, compared_kind, compared_below, compared_jump, two_literals, two_sources}
+use Rattle.codegen.proofs.Conditions.{past, literal_left, literal_value, answered_value, at_meeting, not_compared, compared_kind, compared_below, compared_jump, two_literals, two_sources}
 use Rattle.codegen.proofs.Entries.{below_absent, past_name, valued, leaf_key, key_and_value, store_both, entries_none, entries_again, entries_stop, at_next}
 use Rattle.codegen.proofs.lower_expression.+walk.Goals as goal
 use Rattle.codegen.proofs.lower_expression.+walk.Goals.{lower_map-then-is_inner+else-is_refusal-2, lower_map-else-is_inner+else-is_refusal-3, test-then-node_word-lt-IDENTIFIER, test-else-node_word-lt-IDENTIFIER}
 
 -- ---- the arguments of a call
-
-pub arguments-loop-i-init : goal.arguments-loop-i-init
-arguments-loop-i-init t c = rw (sub-zero _)
 
 pub arguments-peek_into-f1-requires : goal.arguments-peek_into-f1-requires
 arguments-peek_into-f1-requires t c =
@@ -86,9 +82,6 @@ arguments-returns t c =
 pub entry-peek-f1-requires : goal.entry-peek-f1-requires
 entry-peek-f1-requires t c = (child_seen _ _ _ _ _ c.requires.0 c.requires.1.1, omega arith)
 
-pub entry-lower_materializing-r1-requires : goal.entry-lower_materializing-r1-requires
-entry-lower_materializing-r1-requires t c = walk_requires _ _ _ _ _ _ c.requires.0 c.requires.1.1 (omega (arith, c.decreases)) omega arith (λ h. omega (arith, (c.peek-f1.ensures.inner h).1.0))
-
 pub entry-returns-then-is_refusal : goal.entry-returns-then-is_refusal
 entry-returns-then-is_refusal t c =
     let checked = c.requires.0.0 in
@@ -107,9 +100,6 @@ entry-returns-then-node_word-le-IDENTIFIER t c =
 pub entry-peek-f2-requires : goal.entry-peek-f2-requires
 entry-peek-f2-requires t c = (child_seen _ _ _ _ _ c.requires.0 c.requires.1.0, omega arith)
 
-pub entry-lower_materializing-r2-requires : goal.entry-lower_materializing-r2-requires
-entry-lower_materializing-r2-requires t c = walk_requires _ _ _ _ _ _ c.requires.0 c.requires.1.0 (omega (arith, c.decreases)) omega arith (λ h. omega (arith, (c.peek-f2.ensures.inner h).1.0))
-
 pub entry-returns-then-is_refusal-2 : goal.entry-returns-then-is_refusal-2
 entry-returns-then-is_refusal-2 t c =
     let checked = c.requires.0.0 in
@@ -118,9 +108,6 @@ entry-returns-then-is_refusal-2 t c =
 
 pub entry-peek-f3-requires : goal.entry-peek-f3-requires
 entry-peek-f3-requires t c = (child_seen _ _ _ _ _ c.requires.0 c.requires.1.1, omega arith)
-
-pub entry-lower_materializing-r3-requires : goal.entry-lower_materializing-r3-requires
-entry-lower_materializing-r3-requires t c = walk_requires _ _ _ _ _ _ c.requires.0 c.requires.1.1 (omega (arith, c.decreases)) omega arith (λ h. omega (arith, (c.peek-f3.ensures.inner h).1.0))
 
 pub entry-returns-then-is_refusal-3 : goal.entry-returns-then-is_refusal-3
 entry-returns-then-is_refusal-3 t c =
@@ -164,9 +151,6 @@ fuse-returns-then-is_refusal-2 t c =
     compared_jump _ _ c.requires.1 c.node_word-left.ensures c.node_word-right.ensures _ _ _ _
     (λ k e. then_by _ _ _ _ _ _ (operand_of checked c.peek-f1.ensures.inner c.lower_materializing-r1.ensures.walked c.lower_materializing-r1.ensures.done (λ h. c.peek-f1.ensures.operand _ _ checked h refl)) c.is_refusal.ensures c.if-is_refusal.false c.value_of-src1.ensures
     (stop_by _ _ _ _ _ _ (operand_of checked c.peek-f2.ensures.inner c.lower_materializing-r2.ensures.walked c.lower_materializing-r2.ensures.done (λ h. c.peek-f2.ensures.operand _ _ checked h refl)) place_at c.is_refusal-2.ensures c.if-is_refusal-2.true))
-
-pub fuse-test-requires : goal.fuse-test-requires
-fuse-test-requires t c = (omega (arith, c.decreases), c.requires.0)
 
 pub fuse-returns-then-src1-src2 : goal.fuse-returns-then-src1-src2
 fuse-returns-then-src1-src2 t c =
@@ -428,9 +412,6 @@ lower_block-returns t c =
 
 -- ---- a call
 
-pub lower_call-arguments-a-requires : goal.lower_call-arguments-a-requires
-lower_call-arguments-a-requires t c = (omega (arith, c.decreases), (c.requires.0.0, c.requires.1))
-
 pub lower_call-returns-then-is_refusal : goal.lower_call-returns-then-is_refusal
 unfolding lower_node
 lower_call-returns-then-is_refusal t c =
@@ -494,21 +475,10 @@ lower_call-returns t c =
 
 -- ---- a node by its kind
 
-pub lower_expression-logical-requires : goal.lower_expression-logical-requires
-lower_expression-logical-requires t c =
-    let inside = between c.node_word-kind.result c.if-kind.true in
-    let kind = one_of_two c.node_word-kind.result and_kind inside.0 (omega (arith, inside.1, c.if-kind-eq-IF.false)) in
-    (omega (arith, c.decreases), (c.requires, rw c.node_word-kind.ensures at kind))
-
 pub lower_expression-returns-then-kind-lt-IDENTIFIER : goal.lower_expression-returns-then-kind-lt-IDENTIFIER
 lower_expression-returns-then-kind-lt-IDENTIFIER t c =
     rw (c.answered.ensures.state, c.answered.ensures.answer)
     (literal_left c.requires.0.0 c.args.node (omega (arith, c.node_word-kind.ensures, c.if-kind-lt-IDENTIFIER.true)) (dest_of c.args.dest) _)
-
-pub lower_expression-lower_unary-requires : goal.lower_expression-lower_unary-requires
-lower_expression-lower_unary-requires t c =
-    let kind = one_of_two c.node_word-kind.result unary_kind (omega (arith, c.if-kind-eq-IDENTIFIER.false, c.if-kind-lt-IDENTIFIER.false, c.if-kind-eq-BINARY.false)) c.if-kind-le-LOGICAL_NOT.true in
-    (omega (arith, c.decreases), (c.requires, rw c.node_word-kind.ensures at kind))
 
 pub lower_expression-lower_map-requires : goal.lower_expression-lower_map-requires
 lower_expression-lower_map-requires t c =
@@ -631,9 +601,6 @@ lower_if-returns t c =
 
 pub lower_jump_if_false-peek_jump-f-requires : goal.lower_jump_if_false-peek_jump-f-requires
 lower_jump_if_false-peek_jump-f-requires t c = (falling _ _ _ c.requires.0, c.requires.1)
-
-pub lower_jump_if_false-fuse-requires : goal.lower_jump_if_false-fuse-requires
-lower_jump_if_false-fuse-requires t c = (omega (arith, c.decreases), (c.requires, sym c.is_compared.ensures ∙ c.if-is_compared.true))
 
 pub lower_jump_if_false-returns-then-is_compared : goal.lower_jump_if_false-returns-then-is_compared
 lower_jump_if_false-returns-then-is_compared t c =
@@ -763,11 +730,6 @@ lower_map-returns t c =
     (ended _ _ _ _ few))))))
 
 -- ---- a child that was peeked at
-
-pub lower_materializing-lower_expression-requires : goal.lower_materializing-lower_expression-requires
-lower_materializing-lower_expression-requires t c =
-    let inner = sym c.is_inner.ensures ∙ c.if-is_inner.true in
-    rw c.value_of-node.ensures (omega (arith, rw inner at c.decreases), c.requires inner)
 
 -- ---- a unary operator, and not
 

@@ -1,5 +1,5 @@
 -- `codegen::lower_expression::lower_literals` meets its contract: its do-block, a step a line. Assumes nothing.
-use Rattle.std.proofs.Common.{sym, ◌∙◌, inl, inr, arith}
+use Rattle.std.proofs.Common.{sym, ◌∙◌, inl, arith}
 use Rattle.diagnostics.specs.declared.Refusal.{Refusal}
 use Rattle.runtime.specs.declared.operand.Operand.{Operand}
 use Rattle.lowering.specs.Tree.{tree_of}
