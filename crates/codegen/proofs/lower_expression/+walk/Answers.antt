@@ -26,7 +26,7 @@ use Rattle.codegen.proofs.Entries.{below_absent, past_name, valued, leaf_key, ke
 use Rattle.codegen.proofs.lower_expression.+walk.Goals as goal
 use Rattle.codegen.proofs.lower_expression.+walk.Goals.{lower_map-then-is_inner+else-is_refusal-2, lower_map-else-is_inner+else-is_refusal-3, test-then-node_word-lt-IDENTIFIER, test-else-node_word-lt-IDENTIFIER}
 
--- ---- the arguments of a call
+-- ---- `arguments`: each is tried, walked into its local, and marked
 
 pub arguments-peek_into-f1-requires : goal.arguments-peek_into-f1-requires
 arguments-peek_into-f1-requires t c =
@@ -77,7 +77,7 @@ arguments-returns t c =
     (arguments_of _ _ _ c.node_word-first.ensures c.node_word-count.ensures
     (c.loop-i.invariant ∙ arguments_none _ _ _ _ _ _ c.loop-i-test.false))
 
--- ---- an entry of a map
+-- ---- `entry`: a key that is a name or a literal, and its value; or the key, and then its value
 
 pub entry-peek-f1-requires : goal.entry-peek-f1-requires
 entry-peek-f1-requires t c = (child_seen _ _ _ _ _ c.requires.0 c.requires.1.1, omega arith)
@@ -125,7 +125,7 @@ entry-returns t c =
     (then_by _ _ _ _ _ _ (operand_of checked c.peek-f3.ensures.inner c.lower_materializing-r3.ensures.walked c.lower_materializing-r3.ensures.done (λ h. c.peek-f3.ensures.operand _ _ checked h refl)) c.is_refusal-3.ensures c.if-is_refusal-3.false c.value_of-src2.ensures
     (store_both _ _ _ _ _ _ kind _ _ (c.set_property-2.ensures _ _ _))))
 
--- ---- a comparison, whose jump is fused
+-- ---- `fuse`: the left side, the right side, and the jump of both; each side is tried and then walked
 
 pub fuse-peek-f1-requires : goal.fuse-peek-f1-requires
 fuse-peek-f1-requires t c = (child_seen _ _ _ _ _ c.requires.0 (compared_below _ _ c.requires.1 c.node_word-left.ensures c.node_word-right.ensures c.requires.0.0).0, omega arith)
@@ -171,7 +171,7 @@ fuse-returns t c =
     (then_by _ _ _ _ _ _ (operand_of checked c.peek-f2.ensures.inner c.lower_materializing-r2.ensures.walked c.lower_materializing-r2.ensures.done (λ h. c.peek-f2.ensures.operand _ _ checked h refl)) c.is_refusal-2.ensures c.if-is_refusal-2.false c.value_of-src2.ensures
     (two_sources _ _ c.requires.1 c.node_word-left.ensures c.node_word-right.ensures _ _ _ _ k _ _ (c.fused_jump.ensures.step _ _ _ _ k _ c.if-src1-src2.false e))))
 
--- ---- and, or
+-- ---- `logical`: the left side into the destination, the jump, the right side into the same
 
 pub logical-returns-then-is_refusal : goal.logical-returns-then-is_refusal
 unfolding lower_logical
@@ -248,7 +248,7 @@ logical-returns t c =
     (then_patched _ _ _ _ c.patch_to_next.ensures.words
     (ended _ _ _ _ few)))))))
 
--- ---- an operator
+-- ---- `lower_binary`: destination first, left, right; then two literals loaded, or the instruction and the operands' registers given back
 
 pub lower_binary-returns-then-is_refusal : goal.lower_binary-returns-then-is_refusal
 lower_binary-returns-then-is_refusal t c =
@@ -334,7 +334,7 @@ lower_binary-returns t c =
     (then_freed_source _ _ _ _ c.give_back-held2.ensures
     (ended _ _ _ _ few)))))))))
 
--- ---- a block
+-- ---- `lower_block`: destination, then the tail or nil
 
 pub lower_block-returns-then-is_refusal : goal.lower_block-returns-then-is_refusal
 unfolding lower_node
@@ -410,7 +410,7 @@ lower_block-returns t c =
     (rw some_tail (then tree _ register_at _ _ _ tail (sym c.is_refusal-2.ensures ∙ c.if-is_refusal-3.false)
     (ended _ _ _ _ few)))))
 
--- ---- a call
+-- ---- `lower_call`: the arguments, destination, callee, one instruction, and the callee's register given back
 
 pub lower_call-returns-then-is_refusal : goal.lower_call-returns-then-is_refusal
 unfolding lower_node
@@ -473,7 +473,7 @@ lower_call-returns t c =
     (then_freed _ _ _ c.give_back-held1.ensures
     (ended _ _ _ _ few)))))))
 
--- ---- a node by its kind
+-- ---- `lower_expression`: each kind goes to its arm, a literal is left as it is
 
 pub lower_expression-returns-then-kind-lt-IDENTIFIER : goal.lower_expression-returns-then-kind-lt-IDENTIFIER
 lower_expression-returns-then-kind-lt-IDENTIFIER t c =
@@ -486,7 +486,7 @@ lower_expression-lower_map-requires t c =
     let known = kind_word (checked_at c.requires.0.0 c.args.node) in
     (omega (arith, c.decreases), (c.requires, omega (arith, c.node_word-kind.ensures, over, known)))
 
--- ---- if
+-- ---- `lower_if`: the condition, destination, the branch, its jump, the patch, the other branch, the second patch
 
 pub lower_if-lower_jump_if_false-r-requires : goal.lower_if-lower_jump_if_false-r-requires
 lower_if-lower_jump_if_false-r-requires t c =
@@ -597,7 +597,7 @@ lower_if-returns t c =
     (then_patched _ _ _ _ c.patch_to_next-2.ensures.words
     (ended _ _ _ _ few))))))))))
 
--- ---- a condition
+-- ---- `lower_jump_if_false`: a node that was tried is done, or it is walked as a comparison or tested
 
 pub lower_jump_if_false-peek_jump-f-requires : goal.lower_jump_if_false-peek_jump-f-requires
 lower_jump_if_false-peek_jump-f-requires t c = (falling _ _ _ c.requires.0, c.requires.1)
@@ -616,7 +616,7 @@ lower_jump_if_false-returns-then-is_inner t c =
 pub lower_jump_if_false-returns : goal.lower_jump_if_false-returns
 lower_jump_if_false-returns t c = rw (jump_false_at c.requires.0 c.args.node) (c.peek_jump-f.ensures.step _ _ c.requires.0 (sym c.is_inner.ensures ∙ c.if-is_inner.false))
 
--- ---- a map
+-- ---- `lower_map`: destination, CreateMap, and entry by entry
 
 pub lower_map-returns-then-is_refusal : goal.lower_map-returns-then-is_refusal
 unfolding lower_node
@@ -729,9 +729,7 @@ lower_map-returns t c =
     (then_done _ (entries_none _ _ _ _ _ _ _ _ c.loop-i.invariant.1 (omega (arith, c.loop-i-test.false, c.loop-i.invariant.0)))
     (ended _ _ _ _ few))))))
 
--- ---- a child that was peeked at
-
--- ---- a unary operator, and not
+-- ---- `lower_unary`: destination, operand, one instruction, and the operand's register given back
 
 pub lower_unary-returns-then-is_refusal : goal.lower_unary-returns-then-is_refusal
 lower_unary-returns-then-is_refusal t c =
@@ -779,7 +777,7 @@ lower_unary-returns t c =
     (then_freed _ _ _ c.give_back-held1.ensures
     (ended _ _ _ _ few))))))
 
--- ---- a property
+-- ---- `property`: destination, object, key pooled, GetPropertyK, and the object's register given back
 
 pub property-returns-then-is_refusal : goal.property-returns-then-is_refusal
 property-returns-then-is_refusal t c =
@@ -841,7 +839,7 @@ property-returns t c =
     (then_freed _ _ _ c.give_back-held1.ensures
     (ended _ _ _ _ few)))))))
 
--- ---- a node in a register, then its jump
+-- ---- `test`: the node's value in a register, by either way, and then its jump
 
 pub test-returns-then-is_refusal : goal.test-returns-then-is_refusal
 unfolding test
