@@ -146,6 +146,8 @@ fn exported() -> Vec<Exported> {
         let (name, rest) = function.split_once('(').unwrap();
         let (parameters, rest) = rest.split_once(')').unwrap();
         let parameters = parameters.split(',').filter_map(|parameter| parameter.trim().split_once(": "));
+        // A parameter cannot be called `result` in Rattle, where that is what a function returns.
+        let parameters = parameters.map(|(name, kind)| (if name == "res" { "result" } else { name }, kind));
         let parameters = parameters.map(|(name, kind)| (name.to_string(), kind.to_string())).collect();
         let returned = rest.trim_start().strip_prefix("-> ").map(|kind| kind.split_whitespace().next().unwrap().into());
         Exported { name: name.to_string(), parameters, returned }
