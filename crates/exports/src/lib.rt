@@ -11,7 +11,7 @@ use patch::patch_jump;
 use result::numbers_of;
 use words::put_words;
 
-// `lower`, with the eight numbers in `result`, a word each: those for which it has no room are left out, and no byte past the eighth word changes.
+// `lower`, with the eight numbers in `res`, a word each: those for which it has no room are left out, and no byte past the eighth word changes.
 #[unsafe(no_mangle)]
 pub extern "C" fn sewurogi_lower(
     nodes: &[u8],
