@@ -1,4 +1,5 @@
 -- The laws of the arms that lower a child into a register: and, or, if, and the arguments of a call. Assumes nothing.
+use Rattle.std.specs.Prelude.{Option, Some}
 use Prim.Native.Nat.{ℕ, suc, ◌+◌, ◌-◌, ◌%◌, ◌<◌, ◌≤◌}
 use native.Mathlib.Omega.{arith}
 use mathlib.Core.Path.{◌≡◌, refl, sym, ◌∙◌}
@@ -10,7 +11,7 @@ use lib.ListN.{get_or}
 use borrow.Author.Tests.{eq-eqb, ne_eqb}
 use Rattle.diagnostics.specs.declared.Refusal.{Refusal}
 use Rattle.words.specs.Words.{words}
-use Rattle.words.specs.Records.{buffer, append, appended, max_count}
+use Rattle.words.specs.Records.{Buffer, append, max_count}
 use Rattle.environment.specs.declared.Register.{Register}
 use Rattle.syntax.specs.declared.ast.Node.{Node}
 use Rattle.syntax.specs.Ast.{absent, node_word}
@@ -18,7 +19,6 @@ use Rattle.runtime.specs.declared.instruction.Instruction.{Instruction}
 use Rattle.runtime.specs.declared.operand.Operand.{Operand}
 use Rattle.runtime.specs.Instruction.{words_of}
 use Rattle.runtime.specs.Operands.{reg_of}
-use Rattle.lowering.specs.declared.Dest.{Dest}
 use Rattle.lowering.specs.declared.State.{State}
 use Rattle.lowering.specs.Tree.{Tree, node, span_start, span_end}
 use Rattle.lowering.specs.Checked.{Checked, IfBelow, CallBelow}
@@ -41,31 +41,31 @@ abbrev tree_with : List ℕ → List ℕ → List ℕ → Tree
 tree_with nodes list names = record { nodes = nodes; list = words list; names = names }
 
 -- from code, pool, marks and s: `peek_into` left code₁, pool₁ and f, and `lower_materializing` code₂, pool₂, marks₂ and r
-module _ {nodes names code code₁ code₂ pool pool₁ pool₂ marks marks₂ : List ℕ} {s : State} {f r : AnswerAndState} {n d : ℕ} (list : List ℕ)
+module _ {nodes names code code₁ code₂ pool pool₁ pool₂ marks marks₁ marks₂ : List ℕ} {s : State} {f r : AnswerAndState} {n d : ℕ} (list : List ℕ)
     (checked : Checked (tree_with nodes list names)) (few : d < any)
-    (peeked : ((list m : List ℕ) → Checked (tree_with nodes list names) → is_inner f.answer ≡ false →
-    settled (lower_materializing (lower_expression free_temp (tree_with nodes list names) n) (Dest.To (register_at d)) (made code pool m s))
-    ≡ seen (tree_with nodes list names) register_at (made code₁ pool₁ m f.state) f.answer)
+    (peeked : ((list : List ℕ) → Checked (tree_with nodes list names) → is_inner f.answer ≡ false →
+    settled (lower_materializing (lower_expression free_temp (tree_with nodes list names) n) (Some (register_at d)) (made code pool marks s))
+    ≡ seen (tree_with nodes list names) register_at (made code₁ pool₁ marks₁ f.state) f.answer)
     × ((is_inner f.answer ≡ true →
-    ((f.state ≡ s) × ((code₁ ≡ code) × (pool₁ ≡ pool))) × ((value_of f.answer ≤ n) × (binary_kind ≤ node_word nodes (value_of f.answer) 0)))
+    ((f.state ≡ s) × ((code₁ ≡ code) × ((pool₁ ≡ pool) × (marks₁ ≡ marks)))) × ((value_of f.answer ≤ n) × (binary_kind ≤ node_word nodes (value_of f.answer) 0)))
     × ((list : List ℕ) (e : Register) (m : Made) → Checked (tree_with nodes list names) → is_inner f.answer ≡ true →
-    lower_materializing (lower_expression free_temp (tree_with nodes list names) n) (Dest.To e) m
-    ≡ lower_materializing (lower_expression free_temp (tree_with nodes list names) (value_of f.answer)) (Dest.To e) m)))
+    lower_materializing (lower_expression free_temp (tree_with nodes list names) n) (Some e) m
+    ≡ lower_materializing (lower_expression free_temp (tree_with nodes list names) (value_of f.answer)) (Some e) m)))
     (walked : (is_inner f.answer ≡ true →
-    settled (lower_expression free_temp (tree_with nodes list names) (value_of f.answer) (dest_of d) (made code₁ pool₁ marks s))
+    settled (lower_expression free_temp (tree_with nodes list names) (value_of f.answer) (dest_of d) (made code₁ pool₁ marks₁ s))
     ≡ seen (tree_with nodes list names) (operand_at (node (tree_with nodes list names) (value_of f.answer))) (made code₂ pool₂ marks₂ r.state) r.answer)
-    × (is_inner f.answer ≡ false → (r ≡ f) × ((code₂ ≡ code₁) × ((pool₂ ≡ pool₁) × (marks₂ ≡ marks))))) where
-  branch : settled (lower_materializing (lower_expression free_temp (tree_with nodes list names) n) (Dest.To (register_at d)) (made code pool marks s))
+    × (is_inner f.answer ≡ false → (r ≡ f) × ((code₂ ≡ code₁) × ((pool₂ ≡ pool₁) × (marks₂ ≡ marks₁))))) where
+  branch : settled (lower_materializing (lower_expression free_temp (tree_with nodes list names) n) (Some (register_at d)) (made code pool marks s))
       ≡ seen (tree_with nodes list names) register_at (made code₂ pool₂ marks₂ r.state) r.answer
-  branch = into_of checked few peeked.1.0 (λ e m. peeked.1.1 list e m checked) walked.0 walked.1 (peeked.0 list marks checked)
+  branch = into_of checked few peeked.1.0 (λ e m. peeked.1.1 list e m checked) walked.0 walked.1 (peeked.0 list checked)
 
   module _ {B : Type 0} (k : Register → Walk B) {b : Bool} (told : b ≡ is_refusal r.answer) where
     pub then_branch_lem : {q : Outcome B} → b ≡ false → settled (k (register_at d) (made code₂ pool₂ marks₂ r.state)) ≡ q →
-        settled (bind (lower_materializing (lower_expression free_temp (tree_with nodes list names) n) (Dest.To (register_at d)) (made code pool marks s)) k) ≡ q
+        settled (bind (lower_materializing (lower_expression free_temp (tree_with nodes list names) n) (Some (register_at d)) (made code pool marks s)) k) ≡ q
     then_branch_lem left q = then_into (tree_with nodes list names) _ k n (register_at d) _ r.answer branch (sym told ∙ left) q
 
     pub stop_branch : (gives : ℕ → B) → b ≡ true →
-        settled (bind (lower_materializing (lower_expression free_temp (tree_with nodes list names) n) (Dest.To (register_at d)) (made code pool marks s)) k)
+        settled (bind (lower_materializing (lower_expression free_temp (tree_with nodes list names) n) (Some (register_at d)) (made code pool marks s)) k)
         ≡ seen (tree_with nodes list names) gives (made code₂ pool₂ marks₂ r.state) r.answer
     stop_branch gives taken = stop_by (tree_with nodes list names) _ register_at _ r.answer k branch gives told taken
 
@@ -93,12 +93,12 @@ unfoldable pub logical_jump : ℕ → ℕ → Instruction
 logical_jump kind a = cond (eqb kind and_kind) (Instruction.JumpIfFalse a 0) (Instruction.JumpIfTrue a 0)
 
 -- the arm of either kind
-unfoldable pub lower_logical : Tree → ℕ → ℕ → ℕ → Dest → Walk Operand
+unfoldable pub lower_logical : Tree → ℕ → ℕ → ℕ → Option Register → Walk Operand
 lower_logical t kind left right dest = do
   d ← destination dest
-  src ← lower_materializing (lower_expression free_temp t left) (Dest.To d)
+  src ← lower_materializing (lower_expression free_temp t left) (Some d)
   jump ← emit (logical_jump kind (reg_of src))
-  lower_materializing (lower_expression free_temp t right) (Dest.To d)
+  lower_materializing (lower_expression free_temp t right) (Some d)
   patch_to_next jump
   ret (Operand.Register d)
 
@@ -107,7 +107,7 @@ module _ {t : Tree} (checked : Checked t) (i : ℕ) {left right : ℕ} (left_wor
   logical_below (inl h) = rw (left_word, right_word) (below_of checked i and_kind h)
   logical_below (inr h) = rw (left_word, right_word) (below_of checked i or_kind h)
 
-  pub logical_of : (node_word t.nodes i 0 ≡ and_kind) ⊎ (node_word t.nodes i 0 ≡ or_kind) → (dest : Dest) (m : Made) {r : Outcome Operand} →
+  pub logical_of : (node_word t.nodes i 0 ≡ and_kind) ⊎ (node_word t.nodes i 0 ≡ or_kind) → (dest : Option Register) (m : Made) {r : Outcome Operand} →
       settled (lower_logical t (node_word t.nodes i 0) left right dest m) ≡ r → settled (lower_expression free_temp t i dest m) ≡ r
   unfolding lower_logical logical_jump lower_node
   logical_of (inl h) dest m q = expression_of checked i and_kind h dest m (rw (h, left_word, right_word) at q)
@@ -128,12 +128,12 @@ module _ {t : Tree} (checked : Checked t) (i : ℕ) (kind : node_word t.nodes i 
   pub if_below : IfBelow i condition then else
   if_below = rw (condition_word, then_word, else_word) (below_of checked i if_kind kind)
 
-  pub if_of : (dest : Dest) (m : Made) {r : Outcome Operand} →
+  pub if_of : (dest : Option Register) (m : Made) {r : Outcome Operand} →
       settled (lower_node free_temp t (lower_expression free_temp t) (lower_jump_if_false free_temp t) i (Node.If condition then else) dest m) ≡ r → settled (lower_expression free_temp t i dest m) ≡ r
   if_of dest m q = expression_of checked i if_kind kind dest m (rw (condition_word, then_word, else_word) at q)
 
 module _ (t : Tree) {B : Type 0} (i else : ℕ) (d : Register) (m : Made) (k : Register → Walk B) where
-  pub then_else : {r : Outcome B} → else ≢ absent → settled (bind (lower_materializing (lower_expression free_temp t else) (Dest.To d) m) k) ≡ r →
+  pub then_else : {r : Outcome B} → else ≢ absent → settled (bind (lower_materializing (lower_expression free_temp t else) (Some d) m) k) ≡ r →
       settled (bind (lower_else t (lower_expression free_temp t) i else d m) k) ≡ r
   unfolding lower_else
   then_else h q = rw (ne_eqb else absent h) q
@@ -148,7 +148,7 @@ module _ {t : Tree} (checked : Checked t) (i : ℕ) (kind : node_word t.nodes i 
   pub call_below : {callee first count : ℕ} → callee ≡ node_word t.nodes i 1 → first ≡ node_word t.nodes i 2 → count ≡ node_word t.nodes i 3 → CallBelow t i callee first count
   call_below callee-word first_word count_word = rw (callee-word, first_word, count_word) (below_of checked i call_kind kind)
 
-  pub call_of : {callee : ℕ} → callee ≡ node_word t.nodes i 1 → (dest : Dest) (m : Made) {r : Outcome Operand} →
+  pub call_of : {callee : ℕ} → callee ≡ node_word t.nodes i 1 → (dest : Option Register) (m : Made) {r : Outcome Operand} →
       settled (lower_node free_temp t (lower_expression free_temp t) (lower_jump_if_false free_temp t) i (Node.FunctionCall callee (node_word t.nodes i 2) (node_word t.nodes i 3)) dest m) ≡ r →
       settled (lower_expression free_temp t i dest m) ≡ r
   call_of callee-word dest m q = expression_of checked i call_kind kind dest m (rw callee-word at q)
@@ -168,7 +168,7 @@ module _ (t : Tree) (call first count i : ℕ) (m : Made) where
 
   -- the next is aimed at local i, and marked
   pub then_argument : {argument d : ℕ} {r : Outcome Unit} → i < count → i < 256 → argument ≡ get_or t.list (first + i) 0 → d ≡ 256 + i % 256 →
-      settled (bind (lower_materializing (lower_expression free_temp t argument) (Dest.To (register_at d)) m)
+      settled (bind (lower_materializing (lower_expression free_temp t argument) (Some (register_at d)) m)
       (λ x m₁. bind (mark call (span_start t call) (span_end t call) m₁) (λ y. lower_arguments t (lower_expression free_temp t) call first (count - (i + 1)) (i + 1)))) ≡ r →
       settled (lower_arguments t (lower_expression free_temp t) call first (count - i) i m) ≡ r
   unfolding lower_arguments
@@ -178,11 +178,10 @@ module _ (t : Tree) (call first count i : ℕ) (m : Made) where
       rw z (rw (argument-word, local, register_at_local i few, next) at q)
 
 -- the words that `mark_argument` leaves, where there is an instruction to mark
-pub marked : {marks₁ : List ℕ} (marks : List ℕ) (count instructions n : ℕ) → instructions ≢ 0 →
-    buffer marks₁ (appended count n (cond (eqb instructions 0) Refusal.Unmarked Refusal.Marks)) ≡ mark_argument marks count instructions →
-    buffer marks₁ (appended count n Refusal.Marks) ≡ append marks count max_count ((instructions - 1) ∷ []) Refusal.Marks
+pub marked : {after : Buffer} (marks : List ℕ) (count instructions : ℕ) → instructions ≢ 0 → after ≡ mark_argument marks count instructions →
+    after ≡ append marks count max_count ((instructions - 1) ∷ []) Refusal.Marks
 unfolding mark_argument
-marked marks count instructions n h left = rw (ne_eqb instructions 0 h) at left
+marked marks count instructions h left = rw (ne_eqb instructions 0 h) at left
 
 -- where there is none
 pub stop_unmarked : {B : Type 0} (t : Tree) (call : ℕ) (m : Made) (k : ℕ → Walk B) (gives : ℕ → B) → m.state.instructions ≡ 0 → call < word_end →

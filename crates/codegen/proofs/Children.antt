@@ -1,4 +1,5 @@
 -- A child that is tried and, if it is not flat, walked: what it takes to try it and to walk it, and what the two together give. Assumes nothing.
+use Rattle.std.specs.Prelude.{Some, None}
 use Prim.Native.Nat.{ℕ, ◌+◌, ◌*◌, ◌≤◌, ◌<◌}
 use native.Mathlib.Omega.{arith}
 use mathlib.Core.Path.{◌≡◌, refl, ap}
@@ -6,7 +7,6 @@ use mathlib.Core.Bool.{Bool, true, false, cond}
 use mathlib.Core.List.{List}
 use Rattle.environment.specs.declared.Register.{Register}
 use Rattle.syntax.specs.Ast.{node_word}
-use Rattle.lowering.specs.declared.Dest.{Dest}
 use Rattle.lowering.specs.declared.State.{State}
 use Rattle.lowering.specs.Tree.{Tree, node}
 use Rattle.lowering.specs.Checked.{Checked}
@@ -15,21 +15,20 @@ use Rattle.lowering.specs.Steps.{free_temp}
 use Rattle.lowering.specs.Lower.{lower_materializing, lower_expression}
 use Rattle.steps.specs.declared.answer.AnswerAndState.{AnswerAndState}
 use Rattle.steps.specs.Answers.{any, register_at, dest_of, operand_at, settled, seen, is_inner, value_of}
-use Rattle.codegen.specs.Ready.{Ready, ReadyTo}
+use Rattle.codegen.specs.Ready.{InArena}
 use Rattle.codegen.specs.Kinds.{binary_kind}
-use Rattle.codegen.specs.Flat.{FlatReady}
-use Rattle.codegen.proofs.Walk.{falling, child_operand, child_register, child_into}
+use Rattle.codegen.proofs.Walk.{child_operand, child_register, child_into}
 
 -- ---- what it takes
 
 -- to try a node below i
-pub child_seen : (nodes list names : List ℕ) (i n : ℕ) → Ready nodes list names i → n < i → FlatReady nodes names n
-child_seen nodes list names i n ready below = (falling nodes list names ready.0, (ready.1.0, omega (arith, ready.1.1)))
+pub child_in : (nodes : List ℕ) (i n : ℕ) → InArena nodes i → n < i → InArena nodes n
+child_in nodes i n inside below = omega arith
 
 -- to walk it, by a measure that falls: that of node i or more
-pub walk_requires : (nodes list names : List ℕ) {i t : ℕ} (n dest a : ℕ) → Ready nodes list names i → n < i → 8 * i ≤ t → dest ≤ any → (is_inner a ≡ true → value_of a ≤ n) →
-    (cond (is_inner a) (8 * value_of a + 3) 0 < t) × (is_inner a ≡ true → ReadyTo nodes list names (value_of a) dest)
-walk_requires nodes list names {i} {t} n dest a ready below at few same = (go (is_inner a) refl, λ h. ((ready.0, (ready.1.0, omega (arith, same h, ready.1.1))), few))
+pub walk_in : (nodes : List ℕ) {i t : ℕ} (n dest a : ℕ) → InArena nodes i → n < i → 8 * i ≤ t → dest ≤ any → (is_inner a ≡ true → value_of a ≤ n) →
+    (cond (is_inner a) (8 * value_of a + 3) 0 < t) × (is_inner a ≡ true → InArena nodes (value_of a) × (dest ≤ any))
+walk_in nodes {i} {t} n dest a inside below at few same = (go (is_inner a) refl, λ h. (omega (arith, same h, inside), few))
   where
     go : (b : Bool) → is_inner a ≡ b → cond b (8 * value_of a + 3) 0 < t
     go true h = omega (arith, same h)
@@ -41,34 +40,34 @@ walk_requires nodes list names {i} {t} n dest a ready below at few same = (go (i
 kept : {k k₁ p p₁ q q₁ : List ℕ} {f r : AnswerAndState} → (r ≡ f) × ((k₁ ≡ k) × ((p₁ ≡ p) × (q₁ ≡ q))) → (made k₁ p₁ q₁ r.state ≡ made k p q f.state) × (r.answer ≡ f.answer)
 kept same = (rw (same.0, same.1.0, same.1.1.0, same.1.1.1), ap (λ x. x.answer) same.0)
 
-untouched : {A : Type 0} {k k₁ p p₁ q : List ℕ} {s : State} → A × ((k₁ ≡ k) × (p₁ ≡ p)) → made k₁ p₁ q s ≡ made k p q s
-untouched same = rw (same.1.0, same.1.1)
+untouched : {A : Type 0} {k k₁ p p₁ q q₁ : List ℕ} {s : State} → A × ((k₁ ≡ k) × ((p₁ ≡ p) × (q₁ ≡ q))) → made k₁ p₁ q₁ s ≡ made k p q s
+untouched same = rw (same.1.0, same.1.1.0, same.1.1.1)
 
-module _ {t : Tree} (checked : Checked t) {n : ℕ} {k k₁ k₂ p p₁ p₂ q q₂ : List ℕ} {s : State} {f r : AnswerAndState}
-    (inner : is_inner f.answer ≡ true → ((f.state ≡ s) × ((k₁ ≡ k) × (p₁ ≡ p))) × ((value_of f.answer ≡ n) × (binary_kind ≤ node_word t.nodes n 0)))
+module _ {t : Tree} (checked : Checked t) {n : ℕ} {k k₁ k₂ p p₁ p₂ q q₁ q₂ : List ℕ} {s : State} {f r : AnswerAndState}
+    (inner : is_inner f.answer ≡ true → ((f.state ≡ s) × ((k₁ ≡ k) × ((p₁ ≡ p) × (q₁ ≡ q)))) × ((value_of f.answer ≡ n) × (binary_kind ≤ node_word t.nodes n 0)))
     (walked : is_inner f.answer ≡ true →
-    settled (lower_expression free_temp t (value_of f.answer) (dest_of any) (made k₁ p₁ q s)) ≡ seen t (operand_at (node t (value_of f.answer))) (made k₂ p₂ q₂ r.state) r.answer)
-    (done : is_inner f.answer ≡ false → (r ≡ f) × ((k₂ ≡ k₁) × ((p₂ ≡ p₁) × (q₂ ≡ q)))) where
+    settled (lower_expression free_temp t (value_of f.answer) (dest_of any) (made k₁ p₁ q₁ s)) ≡ seen t (operand_at (node t (value_of f.answer))) (made k₂ p₂ q₂ r.state) r.answer)
+    (done : is_inner f.answer ≡ false → (r ≡ f) × ((k₂ ≡ k₁) × ((p₂ ≡ p₁) × (q₂ ≡ q₁)))) where
   -- its operand
-  pub operand_of : (is_inner f.answer ≡ false → settled (lower_expression free_temp t n Dest.Any (made k p q s)) ≡ seen t (operand_at (node t n)) (made k₁ p₁ q f.state) f.answer) →
-      settled (lower_expression free_temp t n Dest.Any (made k p q s)) ≡ seen t (operand_at (node t n)) (made k₂ p₂ q₂ r.state) r.answer
+  pub operand_of : (is_inner f.answer ≡ false → settled (lower_expression free_temp t n None (made k p q s)) ≡ seen t (operand_at (node t n)) (made k₁ p₁ q₁ f.state) f.answer) →
+      settled (lower_expression free_temp t n None (made k p q s)) ≡ seen t (operand_at (node t n)) (made k₂ p₂ q₂ r.state) r.answer
   operand_of tried =
       child_operand checked n _ _ _ _ _ _ (λ h. kept (done h)) (λ h. untouched (inner h).0) tried (λ h. (inner h).1.0) walked
 
   -- its value in a register
-  pub register_of : (is_inner f.answer ≡ false → settled (lower_materializing (lower_expression free_temp t n) Dest.Any (made k p q s)) ≡ seen t register_at (made k₁ p₁ q f.state) f.answer) →
-      settled (lower_materializing (lower_expression free_temp t n) Dest.Any (made k p q s)) ≡ seen t register_at (made k₂ p₂ q₂ r.state) r.answer
+  pub register_of : (is_inner f.answer ≡ false → settled (lower_materializing (lower_expression free_temp t n) None (made k p q s)) ≡ seen t register_at (made k₁ p₁ q₁ f.state) f.answer) →
+      settled (lower_materializing (lower_expression free_temp t n) None (made k p q s)) ≡ seen t register_at (made k₂ p₂ q₂ r.state) r.answer
   register_of tried =
       child_register checked n _ _ _ _ _ _ (λ h. kept (done h)) (λ h. untouched (inner h).0) tried (λ h. (inner h).1.0) (λ h. (inner h).1.1) walked
 
 -- its value in d
-pub into_of : {t : Tree} (checked : Checked t) {n d : ℕ} {k k₁ k₂ p p₁ p₂ q q₂ : List ℕ} {s : State} {f r : AnswerAndState} → d < any →
-    (is_inner f.answer ≡ true → ((f.state ≡ s) × ((k₁ ≡ k) × (p₁ ≡ p))) × ((value_of f.answer ≤ n) × (binary_kind ≤ node_word t.nodes (value_of f.answer) 0))) →
-    ((e : Register) (m : Made) → is_inner f.answer ≡ true → lower_materializing (lower_expression free_temp t n) (Dest.To e) m ≡ lower_materializing (lower_expression free_temp t (value_of f.answer)) (Dest.To e) m) →
+pub into_of : {t : Tree} (checked : Checked t) {n d : ℕ} {k k₁ k₂ p p₁ p₂ q q₁ q₂ : List ℕ} {s : State} {f r : AnswerAndState} → d < any →
+    (is_inner f.answer ≡ true → ((f.state ≡ s) × ((k₁ ≡ k) × ((p₁ ≡ p) × (q₁ ≡ q)))) × ((value_of f.answer ≤ n) × (binary_kind ≤ node_word t.nodes (value_of f.answer) 0))) →
+    ((e : Register) (m : Made) → is_inner f.answer ≡ true → lower_materializing (lower_expression free_temp t n) (Some e) m ≡ lower_materializing (lower_expression free_temp t (value_of f.answer)) (Some e) m) →
     (is_inner f.answer ≡ true →
-    settled (lower_expression free_temp t (value_of f.answer) (dest_of d) (made k₁ p₁ q s)) ≡ seen t (operand_at (node t (value_of f.answer))) (made k₂ p₂ q₂ r.state) r.answer) →
-    (is_inner f.answer ≡ false → (r ≡ f) × ((k₂ ≡ k₁) × ((p₂ ≡ p₁) × (q₂ ≡ q)))) →
-    (is_inner f.answer ≡ false → settled (lower_materializing (lower_expression free_temp t n) (Dest.To (register_at d)) (made k p q s)) ≡ seen t register_at (made k₁ p₁ q f.state) f.answer) →
-    settled (lower_materializing (lower_expression free_temp t n) (Dest.To (register_at d)) (made k p q s)) ≡ seen t register_at (made k₂ p₂ q₂ r.state) r.answer
+    settled (lower_expression free_temp t (value_of f.answer) (dest_of d) (made k₁ p₁ q₁ s)) ≡ seen t (operand_at (node t (value_of f.answer))) (made k₂ p₂ q₂ r.state) r.answer) →
+    (is_inner f.answer ≡ false → (r ≡ f) × ((k₂ ≡ k₁) × ((p₂ ≡ p₁) × (q₂ ≡ q₁)))) →
+    (is_inner f.answer ≡ false → settled (lower_materializing (lower_expression free_temp t n) (Some (register_at d)) (made k p q s)) ≡ seen t register_at (made k₁ p₁ q₁ f.state) f.answer) →
+    settled (lower_materializing (lower_expression free_temp t n) (Some (register_at d)) (made k p q s)) ≡ seen t register_at (made k₂ p₂ q₂ r.state) r.answer
 into_of checked {n} {d} few inner same walked done tried =
     child_into checked n _ _ _ _ _ _ (λ h. kept (done h)) (λ h. untouched (inner h).0) d few tried (λ h. same _ _ h) (λ h. (inner h).1.1) walked

@@ -1,4 +1,5 @@
 -- What a literal and a condition come to in the definition, and the kinds that a test leaves. Assumes nothing.
+use Rattle.std.specs.Prelude.{Option, Some, None}
 use Prim.Native.Nat.{ℕ, zero, suc, ◌+◌, ◌≤◌, ◌<◌}
 use native.Mathlib.Omega.{arith}
 use native.Mathlib.Decide.{ℕ_discrete}
@@ -6,7 +7,6 @@ use mathlib.Core.Path.{◌≡◌, refl, sym}
 use mathlib.Core.Logic.{◌⊎◌, inl, inr}
 use mathlib.Core.Bool.{Bool, true, false, ◌&&◌, false≢true}
 use mathlib.Core.List.{List}
-use mathlib.Core.Option.{some}
 use lib.Dec.{leb, eqb}
 use lib.ListN.{get_or}
 use borrow.Author.Tests.{leb-true, leb-false, le-leb}
@@ -17,7 +17,6 @@ use Rattle.syntax.specs.declared.ops.Comparison.{Comparison}
 use Rattle.syntax.specs.Ops.{binary_op}
 use Rattle.syntax.specs.Ast.{node_kinds, node_word, node_at}
 use Rattle.runtime.specs.declared.operand.Operand.{Operand}
-use Rattle.lowering.specs.declared.Dest.{Dest}
 use Rattle.lowering.specs.Tree.{Tree, node}
 use Rattle.lowering.specs.Checked.{Checked}
 use Rattle.lowering.specs.Walk.{Made, made, Outcome, Walk, bind}
@@ -60,19 +59,19 @@ module _ (k : ℕ) where
 
 module _ {t : Tree} (checked : Checked t) (i : ℕ) where
   -- a literal is LITERAL, and nothing is made
-  pub literal_left : node_word t.nodes i 0 < name_kind → (dest : Dest) (m : Made) → settled (lower_expression free_temp t i dest m) ≡ seen t (operand_at (node t i)) m literal_word
+  pub literal_left : node_word t.nodes i 0 < name_kind → (dest : Option Register) (m : Made) → settled (lower_expression free_temp t i dest m) ≡ seen t (operand_at (node t i)) m literal_word
   unfolding settled operand_at
   literal_left h dest m =
       rw (literal_expression t i (is_literal_lem t i h) dest)
       (sym (seen_word t (operand_at (node t i)) m literal_word (omega arith)))
 
   -- its value in a register is loaded
-  pub literal_value : node_word t.nodes i 0 < name_kind → (dest : Dest) (m : Made) {r : Outcome Register} → settled (load_constant (literal (node t i)) dest m) ≡ r →
+  pub literal_value : node_word t.nodes i 0 < name_kind → (dest : Option Register) (m : Made) {r : Outcome Register} → settled (load_constant (literal (node t i)) dest m) ≡ r →
       settled (lower_materializing (lower_expression free_temp t i) dest m) ≡ r
   literal_value h dest m q = rw (literal_materialized t i (is_literal_lem t i h) dest) q
 
   -- that of any other node is in the register that it answers
-  pub answered_value : name_kind ≤ node_word t.nodes i 0 → (dest : Dest) (m m₁ : Made) (a : ℕ) →
+  pub answered_value : name_kind ≤ node_word t.nodes i 0 → (dest : Option Register) (m m₁ : Made) (a : ℕ) →
       settled (lower_expression free_temp t i dest m) ≡ seen t (operand_at (node t i)) m₁ a → settled (lower_materializing (lower_expression free_temp t i) dest m) ≡ seen t register_at m₁ a
   unfolding lower_materializing
   answered_value h dest m m₁ a e =
@@ -86,7 +85,7 @@ at_meeting t gives e f g h q = rw (e, f, g, h) q
 
 -- ---- conditions
 
-module _ (t : Tree) (E : ℕ → Dest → Walk Operand) (sense : Bool) (own : Dest → Walk Operand) where
+module _ (t : Tree) (E : ℕ → Option Register → Walk Operand) (sense : Bool) (own : Option Register → Walk Operand) where
   -- what is no comparison is tested
   pub not_compared : (n : Node) → is_compared n ≡ false → jump_node t E sense own n ≡ test t E sense own
   unfolding is_compared jump_node fuse
@@ -136,10 +135,10 @@ module _ (t : Tree) (i : ℕ) (is : is_compared (node t i) ≡ true) where
     pub compared_below : Checked t → (left < i) × (right < i)
     compared_below checked = rw (first, second) (below_of checked i binary_kind (compared_kind t.nodes i is))
 
-    module _ (E : ℕ → Dest → Walk Operand) (sense : Bool) (own : Dest → Walk Operand) (m : Made) {r : Outcome ℕ} where
+    module _ (E : ℕ → Option Register → Walk Operand) (sense : Bool) (own : Option Register → Walk Operand) (m : Made) {r : Outcome ℕ} where
       -- it is left, right, and the jump of both
-      pub compared_jump : ((c : Comparison) → comparison (binary_op (node_word t.nodes i 1)) ≡ some c →
-          settled (bind (E left Dest.Any m) (λ a m₁. bind (E right Dest.Any m₁) (λ b. fused_sources t E sense own c (source a) (source b)))) ≡ r) →
+      pub compared_jump : ((c : Comparison) → comparison (binary_op (node_word t.nodes i 1)) ≡ Some c →
+          settled (bind (E left None m) (λ a m₁. bind (E right None m₁) (λ b. fused_sources t E sense own c (source a) (source b)))) ≡ r) →
           settled (jump_node t E sense own (node t i) m) ≡ r
       unfolding is_compared jump_node fuse
       compared_jump q =

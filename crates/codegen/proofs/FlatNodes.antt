@@ -1,5 +1,6 @@
 -- The laws of the flat nodes, by the words that the program has of them: a register that is needed, a name, a leaf, and an operator or a comparison of
 -- leaves. Assumes nothing.
+use Rattle.std.specs.Prelude.{Option, Some, None}
 use Prim.Native.Nat.{ℕ, ◌/◌, ◌<◌, ◌≤◌}
 use native.Mathlib.Omega.{arith}
 use native.Mathlib.Decide.{ℕ_discrete}
@@ -7,7 +8,6 @@ use mathlib.Core.Path.{◌≡◌, refl, sym, ◌∙◌, ap}
 use mathlib.Core.Logic.{◌≢◌, inl, inr}
 use mathlib.Core.Bool.{Bool, true, false, cond, not, ◌&&◌, ◌||◌, and-false, false≢true, true≢false}
 use mathlib.Core.List.{List}
-use mathlib.Core.Option.{some}
 use lib.Dec.{eqb, leb}
 use lib.ListN.{length}
 use borrow.Author.Tests.{lt-ltb, le-ltb, le-leb, lt-leb, leb-true, eqb-true, eqb-false, eq-eqb, ne_eqb}
@@ -22,7 +22,6 @@ use Rattle.syntax.specs.Ops.{binary_op}
 use Rattle.runtime.specs.declared.instruction.Instruction.{Instruction}
 use Rattle.runtime.specs.declared.operand.Operand.{Operand}
 use Rattle.runtime.specs.Operands.{reg_of}
-use Rattle.lowering.specs.declared.Dest.{Dest}
 use Rattle.lowering.specs.Tree.{Tree, tree_of, node}
 use Rattle.lowering.specs.Checked.{Checked}
 use Rattle.lowering.specs.Walk.{Made, Outcome, ends, stops, Walk, bind, ◌>>=◌, ret, unnamed}
@@ -111,7 +110,7 @@ loaded_operand t n d w m m₁ a given word e =
 -- how it is lowered
 module _ (t : Tree) (asked d i : ℕ) (m : Made) where
   pub literal_flat : node_word t.nodes i 0 < name_kind → asked ≢ ask_operand →
-      flat_node t asked d i m ≡ needing d (load_constant (literal (node t i)) (Dest.To (register_at d)) >>= λ x. ret (Operand.Register x)) m
+      flat_node t asked d i m ≡ needing d (load_constant (literal (node t i)) (Some (register_at d)) >>= λ x. ret (Operand.Register x)) m
   unfolding flat_node
   literal_flat kind h = rw (lt-ltb (node_word t.nodes i 0) name_kind kind, ne_eqb asked ask_operand h)
 
@@ -119,11 +118,11 @@ module _ (t : Tree) (asked d i : ℕ) (m : Made) where
   unfolding flat_node
   literal_itself kind h = rw (lt-ltb (node_word t.nodes i 0) name_kind kind, eq-eqb asked ask_operand h)
 
-  pub name_flat : node_word t.nodes i 0 ≡ name_kind → flat_node t asked d i m ≡ lower_expression free_temp t i (cond (eqb asked ask_into) (Dest.To (register_at d)) Dest.Any) m
+  pub name_flat : node_word t.nodes i 0 ≡ name_kind → flat_node t asked d i m ≡ lower_expression free_temp t i (cond (eqb asked ask_into) (Some (register_at d)) None) m
   unfolding flat_node
   name_flat kind = rw kind
 
-  pub binary_flat : node_word t.nodes i 0 ≡ binary_kind → flat_node t asked d i m ≡ needing d (lower_expression free_temp t i (Dest.To (register_at d))) m
+  pub binary_flat : node_word t.nodes i 0 ≡ binary_kind → flat_node t asked d i m ≡ needing d (lower_expression free_temp t i (Some (register_at d))) m
   unfolding flat_node
   binary_flat kind = rw kind
 
@@ -136,23 +135,23 @@ name_word (inr h) e = omega arith
 
 -- a name, by the word of its register
 module _ (t : Tree) (i : ℕ) (kind : node_word t.nodes i 0 ≡ name_kind) (w : ℕ) (found : found_at w ≡ lookup t.names (length t.names) (node_word t.nodes i 1)) where
-  name_declared : (dest : Dest) (m : Made) → w ≢ none → lower_expression free_temp t i dest m ≡ moved t (register_at w) dest m
+  name_declared : (dest : Option Register) (m : Made) → w ≢ none → lower_expression free_temp t i dest m ≡ moved t (register_at w) dest m
   unfolding lower_name found_at
   name_declared dest m h = named_at t i m dest kind found ∙ rw (ne_eqb w none h)
 
-  pub stop_name : {B : Type 0} (dest : Dest) (m : Made) (k : Operand → Walk B) (gives : ℕ → B) → w ≡ none → i < word_end →
+  pub stop_name : {B : Type 0} (dest : Option Register) (m : Made) (k : Operand → Walk B) (gives : ℕ → B) → w ≡ none → i < word_end →
       settled (bind (lower_expression free_temp t i dest m) k) ≡ seen t gives m (refusal_at Refusal.Undeclared i)
   unfolding lower_name found_at error_at names_node bind settled
   stop_name dest m k gives h small = rw (named_at t i m dest kind found, eq-eqb w none h) (sym (seen_refusal t gives m Refusal.Undeclared i small))
 
   pub then_name : {B : Type 0} (m : Made) (k : Operand → Walk B) {r : Outcome B} → w ≢ none → settled (k (Operand.Register (register_at w)) m) ≡ r →
-      settled (bind (lower_expression free_temp t i Dest.Any m) k) ≡ r
+      settled (bind (lower_expression free_temp t i None m) k) ≡ r
   unfolding moved bind
-  then_name m k h q = rw (name_declared Dest.Any m h) q
+  then_name m k h q = rw (name_declared None m h) q
 
   -- as a flat node: its own register if none is given or it is that one, else a Move
   module _ (asked d : ℕ) (m : Made) where
-    flat_name : {r : Outcome Operand} → settled (lower_expression free_temp t i (cond (eqb asked ask_into) (Dest.To (register_at d)) Dest.Any) m) ≡ r →
+    flat_name : {r : Outcome Operand} → settled (lower_expression free_temp t i (cond (eqb asked ask_into) (Some (register_at d)) None) m) ≡ r →
         settled (flat_node t asked d i m) ≡ r
     flat_name q = ap settled (name_flat t asked d i m kind) ∙ q
 
@@ -162,12 +161,12 @@ module _ (t : Tree) (i : ℕ) (kind : node_word t.nodes i 0 ≡ name_kind) (w : 
     pub flat_name_own : {r : Outcome Operand} → LocalOr w → w ≢ none → not (eqb asked ask_into) || eqb w d ≡ true → ends (Operand.Register (register_at w)) m ≡ r →
         settled (flat_node t asked d i m) ≡ r
     unfolding moved settled
-    flat_name_own {r} local h own q = flat_name (rw (name_declared (cond (eqb asked ask_into) (Dest.To (register_at d)) Dest.Any) m h) (go (eqb asked ask_into) own))
+    flat_name_own {r} local h own q = flat_name (rw (name_declared (cond (eqb asked ask_into) (Some (register_at d)) None) m h) (go (eqb asked ask_into) own))
       where
         declared : (256 ≤ w) × (w < any)
         declared = local_word local h
 
-        go : (b : Bool) → not b || eqb w d ≡ true → settled (moved t (register_at w) (cond b (Dest.To (register_at d)) Dest.Any) m) ≡ r
+        go : (b : Bool) → not b || eqb w d ≡ true → settled (moved t (register_at w) (cond b (Some (register_at d)) None) m) ≡ r
         go false own = q
         go true own = rw (← eqb-true w d own, same_word w w declared.1 declared.0 declared.1, eq-eqb w w refl) q
 
@@ -178,19 +177,19 @@ module _ (t : Tree) (i : ℕ) (kind : node_word t.nodes i 0 ≡ name_kind) (w : 
     flat_name_moved local h into few other q =
         let declared = local_word local h in
         let differs : eqb d w ≡ false = ne_eqb d w (λ e. other (sym e)) in
-        flat_name (rw (eq-eqb asked ask_into into, name_declared (Dest.To (register_at d)) m h, same_word d w few declared.0 declared.1, differs) q)
+        flat_name (rw (eq-eqb asked ask_into into, name_declared (Some (register_at d)) m h, same_word d w few declared.0 declared.1, differs) q)
 
   -- as a condition: the test of its own register
-  module _ (E : ℕ → Dest → Walk Operand) (sense : Bool) (m : Made) where
+  module _ (E : ℕ → Option Register → Walk Operand) (sense : Bool) (m : Made) where
     pub condition_name_undeclared : (gives : ℕ → ℕ) → w ≡ none → i < word_end →
         settled (jump_node t E sense (lower_expression free_temp t i) (node t i) m) ≡ seen t gives m (refusal_at Refusal.Undeclared i)
     unfolding jump_node test lower_materializing
-    condition_name_undeclared gives h small = rw (node_kind t i name_kind kind) (nested _ _ _ (stop_name Dest.Any m _ gives h small))
+    condition_name_undeclared gives h small = rw (node_kind t i name_kind kind) (nested _ _ _ (stop_name None m _ gives h small))
 
     pub condition_name : {r : Outcome ℕ} → w ≢ none → settled (emit (jump_if sense (reg_of (register_at w))) m) ≡ r →
         settled (jump_node t E sense (lower_expression free_temp t i) (node t i) m) ≡ r
     unfolding jump_node test lower_materializing moved source materialized bind
-    condition_name h q = rw (node_kind t i name_kind kind, name_declared Dest.Any m h) q
+    condition_name h q = rw (node_kind t i name_kind kind, name_declared None m h) q
 
 -- another register was given
 pub asked_into : (asked w d : ℕ) → not (eqb asked ask_into) || eqb w d ≡ false → (asked ≡ ask_into) × (w ≢ d)
@@ -211,22 +210,22 @@ Leaf t i w =
 module _ (t : Tree) (i w : ℕ) (leaf : Leaf t i w) where
   module _ {B : Type 0} (m : Made) (k : Operand → Walk B) where
     pub stop_leaf : (gives : ℕ → B) → w ≡ none → i < word_end →
-        settled (bind (lower_expression free_temp t i Dest.Any m) k) ≡ seen t gives m (refusal_at Refusal.Undeclared i)
+        settled (bind (lower_expression free_temp t i None m) k) ≡ seen t gives m (refusal_at Refusal.Undeclared i)
     stop_leaf gives h small = go (ℕ_discrete (node_word t.nodes i 0) name_kind)
       where
-        go : Dec (node_word t.nodes i 0 ≡ name_kind) → settled (bind (lower_expression free_temp t i Dest.Any m) k) ≡ seen t gives m (refusal_at Refusal.Undeclared i)
-        go (yes e) = stop_name t i e w (leaf.0 e).0 Dest.Any m k gives h small
+        go : Dec (node_word t.nodes i 0 ≡ name_kind) → settled (bind (lower_expression free_temp t i None m) k) ≡ seen t gives m (refusal_at Refusal.Undeclared i)
+        go (yes e) = stop_name t i e w (leaf.0 e).0 None m k gives h small
         go (no e) = absurd (omega (arith, leaf.1 e))
 
     pub then_leaf : {r : Outcome B} → node_word t.nodes i 0 ≤ name_kind → w ≢ none → settled (k (operand_at (node t i) w) m) ≡ r →
-        settled (bind (lower_expression free_temp t i Dest.Any m) k) ≡ r
+        settled (bind (lower_expression free_temp t i None m) k) ≡ r
     unfolding bind operand_at
     then_leaf {r} few h q = go (ℕ_discrete (node_word t.nodes i 0) name_kind)
       where
-        go : Dec (node_word t.nodes i 0 ≡ name_kind) → settled (bind (lower_expression free_temp t i Dest.Any m) k) ≡ r
+        go : Dec (node_word t.nodes i 0 ≡ name_kind) → settled (bind (lower_expression free_temp t i None m) k) ≡ r
         go (yes e) = then_name t i e w (leaf.0 e).0 m k h (rw (ne_eqb w literal_word (name_word (leaf.0 e).1)) at q)
         go (no e) =
-            rw (literal_expression t i (is_literal_lem t i (omega arith)) Dest.Any)
+            rw (literal_expression t i (is_literal_lem t i (omega arith)) None)
             (rw (eq-eqb w literal_word (leaf.1 e)) at q)
 
   -- a local is not given back, and a literal neither
@@ -276,7 +275,7 @@ module _ (nodes : List ℕ) (left right : ℕ) (leaves : are_leaves nodes left r
             rw (ne_eqb w₂ literal_word (name_word (b.0 named).1)) (and-false (eqb w₁ literal_word))
 
     -- c: the constant that one of them is
-    module _ (E : ℕ → Dest → Walk Operand) (m : Made) (c : Operand)
+    module _ (E : ℕ → Option Register → Walk Operand) (m : Made) (c : Operand)
         (is : c ≡ one_literal (literal (node (tree_of nodes list names) left)) (literal (node (tree_of nodes list names) right)) w₁ w₂) where
       left_source : source (operand_at (node (tree_of nodes list names) left) w₁) ≡ source_at c w₁
       left_source = source_operand (node (tree_of nodes list names) left) w₁ ∙ rw is (sym (first_source _ _ w₁ w₂))
@@ -298,7 +297,7 @@ module _ (nodes : List ℕ) (left right : ℕ) (leaves : are_leaves nodes left r
           ) q
 
       -- a comparison's jump
-      pub fused_leaves : (sense : Bool) (own : Dest → Walk Operand) (op : Comparison) {r : Outcome ℕ} →
+      pub fused_leaves : (sense : Bool) (own : Option Register → Walk Operand) (op : Comparison) {r : Outcome ℕ} →
           settled (fused_sources (tree_of nodes list names) E sense own op (source_at c w₁) (source_at c w₂) m) ≡ r →
           settled (fused_sources (tree_of nodes list names) E sense own op
           (source (operand_at (node (tree_of nodes list names) left) w₁)) (source (operand_at (node (tree_of nodes list names) right) w₂)) m) ≡ r
@@ -311,20 +310,20 @@ pub operands_inside : {nodes : List ℕ} → Falling nodes → (i left right : �
     left ≡ node_word_of nodes i 2 → right ≡ node_word_of nodes i 3 → InArena nodes left × InArena nodes right
 operands_inside falling i left right h kind at_left at_right = (omega (arith, falling.left i h kind), omega (arith, falling.right i h kind))
 
-module _ (t : Tree) (i operator left right : ℕ) (kind : node_word t.nodes i 0 ≡ binary_kind) (at_operator : operator ≡ node_word t.nodes i 1)
+module _ (t : Tree) (i : ℕ) (operator : BinaryOp) (left right : ℕ) (kind : node_word t.nodes i 0 ≡ binary_kind) (at_operator : operator ≡ binary_op (node_word t.nodes i 1))
     (at_left : left ≡ node_word t.nodes i 2) (at_right : right ≡ node_word t.nodes i 3) (m : Made) where
   -- "destination first, left, right", where the destination is given
   pub binary_of : Checked t → (d : Register) {r : Outcome Operand} →
-      settled (bind (lower_expression free_temp t left Dest.Any m) (λ a n. bind (lower_expression free_temp t right Dest.Any n)
-      (λ b. binary_sources free_temp t (lower_expression free_temp t) (binary_op operator) left right d (source a) (source b)))) ≡ r →
-      settled (lower_expression free_temp t i (Dest.To d) m) ≡ r
+      settled (bind (lower_expression free_temp t left None m) (λ a n. bind (lower_expression free_temp t right None n)
+      (λ b. binary_sources free_temp t (lower_expression free_temp t) operator left right d (source a) (source b)))) ≡ r →
+      settled (lower_expression free_temp t i (Some d) m) ≡ r
   unfolding destination bind
-  binary_of checked d q = operator_of checked i kind at_left at_right (Dest.To d) m (rw at_operator at q)
+  binary_of checked d q = operator_of checked i kind at_left at_right (Some d) m (rw at_operator at q)
 
   -- a comparison as a condition: "left, right, constants pooled, one fused jump"
-  pub compared_of : (E : ℕ → Dest → Walk Operand) (sense : Bool) (own : Dest → Walk Operand) (op : Comparison) {r : Outcome ℕ} →
-      comparison (binary_op operator) ≡ some op →
-      settled (bind (E left Dest.Any m) (λ a n. bind (E right Dest.Any n) (λ b. fused_sources t E sense own op (source a) (source b)))) ≡ r →
+  pub compared_of : (E : ℕ → Option Register → Walk Operand) (sense : Bool) (own : Option Register → Walk Operand) (op : Comparison) {r : Outcome ℕ} →
+      comparison operator ≡ Some op →
+      settled (bind (E left None m) (λ a n. bind (E right None n) (λ b. fused_sources t E sense own op (source a) (source b)))) ≡ r →
       settled (jump_node t E sense own (node t i) m) ≡ r
   unfolding jump_node fuse
   compared_of E sense own op compares q = rw (node_kind t i binary_kind kind, ← at_operator, compares, ← at_left, ← at_right) q

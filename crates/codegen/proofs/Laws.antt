@@ -14,8 +14,6 @@ use Rattle.diagnostics.specs.declared.Refusal.{Refusal}
 use Rattle.environment.specs.declared.RegisterSet.{RegisterSet}
 use Rattle.environment.specs.Environment.{parameters}
 use Rattle.lowering.specs.Checked.{Checked}
-use Rattle.patch.specs.declared.Patched.{Patched}
-use Rattle.patch.specs.Arguments.{seen_done}
 use Rattle.lowering.specs.declared.State.{State}
 use Rattle.lowering.specs.Tree.{Tree, tree_of}
 use Rattle.lowering.specs.Questions.{question2, question8, passed, refused, questions}
@@ -45,18 +43,17 @@ module _ {t : Tree} (checked : Checked t) (root : ℕ) (m : Made) {r : Outcome �
   mode_true (suc (suc mode)) h q = rw (jump_true_at t root) q
 
 -- the arguments, patched or refused, and then the answer
-module _ (t : Tree) (n : ℕ) (m m' : Made) (place : ℕ) (p : Patched) (e : patch_marks n 0 m ≡ seen_done p m') where
-  pub patched_done : p ≡ Patched.Done → place < word_end → settled (bind (patch_marks n 0 m) (λ x. ret place)) ≡ seen t place_at m' place
-  unfolding seen_done bind settled
-  patched_done same few = rw (e, same) (sym (seen_word t place_at m' place few))
+module _ (t : Tree) (n : ℕ) (m m' : Made) (place : ℕ) where
+  pub patched_done : patch_marks n 0 m ≡ ends tt m' → place < word_end → settled (bind (patch_marks n 0 m) (λ x. ret place)) ≡ seen t place_at m' place
+  unfolding bind settled
+  patched_done e few = rw e (sym (seen_word t place_at m' place few))
 
-  pub patched_refused : {refusal : Refusal} {at : ℕ} → p ≡ Patched.Refused refusal at → at < word_end →
+  pub patched_refused : {refusal : Refusal} {at : ℕ} → patch_marks n 0 m ≡ stops (error refusal at 0 0) m' → at < word_end →
       settled (bind (patch_marks n 0 m) (λ x. ret place)) ≡ seen t place_at m' (refusal_at refusal at)
-  unfolding seen_done bind settled error_at names_node
-  patched_refused {refusal} {at} same few =
-      let stopped : patch_marks n 0 m ≡ stops (error refusal at 0 0) m' = rw (e, same) in
-      let none : names_node refusal ≡ false = no_node (patch_refusals n 0 m (error refusal at 0 0) m' stopped).refusal in
-      rw (e, same) (sym (rw none at (seen_refusal t place_at m' refusal at few)))
+  unfolding bind settled error_at names_node
+  patched_refused {refusal} {at} e few =
+      let none : names_node refusal ≡ false = no_node (patch_refusals n 0 m (error refusal at 0 0) m' e).refusal in
+      rw e (sym (rw none at (seen_refusal t place_at m' refusal at few)))
     where
       no_node : (refusal ≡ Refusal.Destination) ⊎ (refusal ≡ Refusal.Sum) → names_node refusal ≡ false
       no_node (inl h) = rw h

@@ -1,5 +1,6 @@
 -- What the arms of an operator, a block and a property use beside Walk and Children: a register's word; a unary operator and not, a property, and an operator,
 -- each by the words of its node; the two sources of an operator; and two literals. Assumes nothing.
+use Rattle.std.specs.Prelude.{Option, None}
 use Prim.Native.Nat.{ℕ, ◌<◌}
 use native.Mathlib.Decide.{ℕ_discrete}
 use mathlib.Core.Path.{◌≡◌, refl, sym, ◌∙◌, subst}
@@ -16,7 +17,6 @@ use Rattle.runtime.specs.declared.instruction.Instruction.{Instruction}
 use Rattle.runtime.specs.declared.operand.Operand.{Operand}
 use Rattle.runtime.specs.Instruction.{words_of}
 use Rattle.runtime.specs.Operands.{reg_of}
-use Rattle.lowering.specs.declared.Dest.{Dest}
 use Rattle.lowering.specs.Tree.{Tree, tree_of, node}
 use Rattle.lowering.specs.Checked.{Checked}
 use Rattle.lowering.specs.Walk.{Made, Outcome, ends, Walk, bind, ◌>>=◌, ◌>>◌, ret}
@@ -67,8 +67,8 @@ module _ (nodes : List ℕ) (i : ℕ) where
     single_below (inr kind) = rw (operand_word, kind) (below_of checked i not_kind kind)
 
     -- destination, operand, and the rest
-    pub single_of : (node_word_of nodes i 0 ≡ unary_kind) ⊎ (node_word_of nodes i 0 ≡ not_kind) → (dest : Dest) (m : Made) {r : Outcome Operand} →
-        settled (bind (destination dest m) (λ d m₁. bind (lower_materializing (lower_expression free_temp (tree_of nodes list names) operand) Dest.Any m₁) (λ src. operated (single_instruction nodes i) d src))) ≡ r →
+    pub single_of : (node_word_of nodes i 0 ≡ unary_kind) ⊎ (node_word_of nodes i 0 ≡ not_kind) → (dest : Option Register) (m : Made) {r : Outcome Operand} →
+        settled (bind (destination dest m) (λ d m₁. bind (lower_materializing (lower_expression free_temp (tree_of nodes list names) operand) None m₁) (λ src. operated (single_instruction nodes i) d src))) ≡ r →
         settled (lower_expression free_temp (tree_of nodes list names) i dest m) ≡ r
     unfolding only_operand operated lower_node
     single_of (inl kind) dest m q = expression_of checked i unary_kind kind dest m (rw (operand_word, kind) at q)
@@ -90,8 +90,8 @@ module _ {t : Tree} (checked : Checked t) (i : ℕ) (kind : node_word t.nodes i 
   property_below = rw object_word (below_of checked i property_kind kind)
 
   -- destination, object, and the rest
-  pub property_of : (dest : Dest) (m : Made) {r : Outcome Operand} →
-      settled (bind (destination dest m) (λ d m₁. bind (lower_materializing (lower_expression free_temp t object) Dest.Any m₁) (λ src. fetched property d src))) ≡ r →
+  pub property_of : (dest : Option Register) (m : Made) {r : Outcome Operand} →
+      settled (bind (destination dest m) (λ d m₁. bind (lower_materializing (lower_expression free_temp t object) None m₁) (λ src. fetched property d src))) ≡ r →
       settled (lower_expression free_temp t i dest m) ≡ r
   unfolding lower_node fetched
   property_of dest m q = expression_of checked i property_kind kind dest m (rw (object_word, property_word) at q)
@@ -104,8 +104,8 @@ module _ {t : Tree} (checked : Checked t) (i : ℕ) (kind : node_word t.nodes i 
   operator_below = rw (left_word, right_word) (below_of checked i binary_kind kind)
 
   -- destination, left, right, and what is made of both
-  pub operator_of : (dest : Dest) (m : Made) {r : Outcome Operand} →
-      settled (bind (destination dest m) (λ d m₁. bind (lower_expression free_temp t left Dest.Any m₁) (λ a m₂. bind (lower_expression free_temp t right Dest.Any m₂)
+  pub operator_of : (dest : Option Register) (m : Made) {r : Outcome Operand} →
+      settled (bind (destination dest m) (λ d m₁. bind (lower_expression free_temp t left None m₁) (λ a m₂. bind (lower_expression free_temp t right None m₂)
       (λ b. binary_sources free_temp t (lower_expression free_temp t) (binary_op (node_word t.nodes i 1)) left right d (source a) (source b))))) ≡ r →
       settled (lower_expression free_temp t i dest m) ≡ r
   unfolding lower_node
@@ -158,7 +158,7 @@ module _ (a b : Operand) (src1 src2 : ℕ) where
 
 module _ (t : Tree) where
   -- a node whose word is a literal's is a literal, by what the program asked and read
-  pub word_literal : (n : ℕ) (dest : Dest) (m m₁ : Made) (a : ℕ) → settled (lower_expression free_temp t n dest m) ≡ seen t (operand_at (node t n)) m₁ a →
+  pub word_literal : (n : ℕ) (dest : Option Register) (m m₁ : Made) (a : ℕ) → settled (lower_expression free_temp t n dest m) ≡ seen t (operand_at (node t n)) m₁ a →
       {b : Bool} {x : ℕ} → b ≡ is_refusal a → b ≡ false → x ≡ value_of a → x ≡ literal_word → is_literal (node t n) ≡ true
   unfolding operand_at
   word_literal n dest m m₁ a e told left read w = go (is_literal (node t n)) refl
@@ -177,7 +177,7 @@ module _ (t : Tree) where
         settled (binary_sources free_temp t (lower_expression free_temp t) operator left right d (source (operand_at (node t left) v)) (source (operand_at (node t right) w)) m) ≡ r
     unfolding operand_at binary_sources lower_literals
     then_literals both l l' q =
-        rw (both.0, both.1, literal_source (node t left), literal_source (node t right), literal_materialized t left l Dest.Any, literal_materialized t right l' Dest.Any)
+        rw (both.0, both.1, literal_source (node t left), literal_source (node t right), literal_materialized t left l None, literal_materialized t right l' None)
         (rw (← left_word, ← right_word) at q)
 
     -- else the instruction, and then the registers given back
@@ -211,15 +211,15 @@ swapped_fields opcode p swap l r a b a' b' = rw (p, l, r, swap, a, b, a', b')
 
 -- the left is loaded, and then the rest; x, y and z are the words of the node
 pub one_loaded : (t : Tree) {left y : ℕ} {a : Operand} → left ≡ y → a ≡ literal (node t left) → (operator : BinaryOp) (z : ℕ) (d : Register) (m : Made) {r : Outcome Operand} →
-    settled (bind (load_constant a (dest_of any) m) (λ src1 m₁. bind (load_constant (literal (node t z)) Dest.Any m₁) (λ src2. combined operator d src1 src2))) ≡ r →
+    settled (bind (load_constant a (dest_of any) m) (λ src1 m₁. bind (load_constant (literal (node t z)) None m₁) (λ src2. combined operator d src1 src2))) ≡ r →
     settled (lower_literals t operator y z d m) ≡ r
 unfolding lower_literals combined
 one_loaded t left_word is operator z d m q = rw (← left_word, ← is) (rw dest_of_any at q)
 
 -- both are
-pub two_loaded : (t : Tree) {operator left right x y z : ℕ} {a b : Operand} → operator ≡ x → left ≡ y → right ≡ z → a ≡ literal (node t left) → b ≡ literal (node t right) →
+pub two_loaded : (t : Tree) {operator op : BinaryOp} {left right y z : ℕ} {a b : Operand} → operator ≡ op → left ≡ y → right ≡ z → a ≡ literal (node t left) → b ≡ literal (node t right) →
     (d : Register) (m : Made) {r : Outcome Operand} →
-    settled (bind (load_constant a (dest_of any) m) (λ src1 m₁. bind (load_constant b (dest_of any) m₁) (λ src2. combined (binary_op operator) d src1 src2))) ≡ r →
-    settled (lower_literals t (binary_op x) y z d m) ≡ r
-two_loaded t operator-word left_word right_word is-left is_right d m q =
-    one_loaded t left_word is-left _ _ d m (rw (← operator-word, ← right_word, ← is_right, dest_of_any) (rw dest_of_any at q))
+    settled (bind (load_constant a (dest_of any) m) (λ src1 m₁. bind (load_constant b (dest_of any) m₁) (λ src2. combined operator d src1 src2))) ≡ r →
+    settled (lower_literals t op y z d m) ≡ r
+two_loaded t same left_word right_word is-left is_right d m q =
+    one_loaded t left_word is-left _ _ d m (rw (← same, ← right_word, ← is_right, dest_of_any) (rw dest_of_any at q))

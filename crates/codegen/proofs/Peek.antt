@@ -1,5 +1,6 @@
 -- The laws by which a flat node that was tried is what the definition gives: with a register taken beforehand, which is kept only if it is the answer, and with the
 -- register given. Assumes nothing.
+use Rattle.std.specs.Prelude.{Some, None, Result, Ok, Err}
 use Prim.Native.Nat.{ℕ, ◌+◌, ◌<◌, ◌≤◌}
 use native.Mathlib.Omega.{arith}
 use native.Mathlib.Decide.{dec_lt, ℕ_discrete}
@@ -11,19 +12,16 @@ use lib.Dec.{leb, eqb}
 use lib.ListN.{length}
 use borrow.Author.Tests.{lt-ltb, le-ltb, le-leb, eq-eqb, ne_eqb, leb-true, leb-false}
 use Rattle.diagnostics.specs.declared.Refusal.{Refusal}
-use Rattle.diagnostics.specs.declared.Place.{Place}
 use Rattle.words.specs.Words.{words}
 use Rattle.environment.specs.declared.Register.{Register}
 use Rattle.environment.specs.declared.RegisterSet.{RegisterSet}
 use Rattle.environment.specs.declared.Taken.{Taken}
-use Rattle.environment.specs.declared.Found.{Found}
 use Rattle.environment.specs.Registers.{taken}
 use Rattle.environment.specs.Environment.{lookup}
 use Rattle.environment.proofs.Laws.{place_takes, take_refused, lookup_found}
 use Rattle.syntax.specs.declared.ast.Node.{Node}
 use Rattle.syntax.specs.Ast.{node_word, node_at}
 use Rattle.runtime.specs.declared.operand.Operand.{Operand}
-use Rattle.lowering.specs.declared.Dest.{Dest}
 use Rattle.lowering.specs.declared.State.{State}
 use Rattle.lowering.specs.Tree.{Tree, tree_of, node}
 use Rattle.lowering.specs.Checked.{Checked}
@@ -140,9 +138,9 @@ module _ (t : Tree) (n : Node) (m m' : Made) (a d : ℕ) {after : Taken} (took :
       either true = refl
       either false = refl
 
-      set_stays : (p : Place) → (taken (registers_of m)).place ≡ p → number_at p ≡ none → after.set ≡ registers_of m
-      set_stays (Place.At r) e z = absurd (omega (arith, (place_takes (registers_of m) r e).in_range))
-      set_stays (Place.Refused refusal) e z = rw took (take_refused (registers_of m) refusal e).unchanged
+      set_stays : (p : Result ℕ Refusal) → (taken (registers_of m)).place ≡ p → number_at p ≡ none → after.set ≡ registers_of m
+      set_stays (Ok r) e z = absurd (omega (arith, (place_takes (registers_of m) r e).in_range))
+      set_stays (Err refusal) e z = rw took (take_refused (registers_of m) refusal e).unchanged
 
   -- an answer that is no temporary takes none
   stays : (o : Outcome Operand) → Holds (λ x m₁. Stays (source x)) o → settled o ≡ seen t (operand_at n) (with_registers (registers_of m) m') a →
@@ -196,9 +194,9 @@ module _ (t : Tree) (n : Node) (m m' : Made) (a d : ℕ) {after : Taken} (took :
 loaded : (t : Tree) (n : Node) (o : Outcome Register) (m : Made) (a : ℕ) → settled (bind o (λ r. ret (Operand.Register r))) ≡ seen t (operand_at n) m a →
     settled o ≡ seen t register_at m a
 unfolding bind source materialized GivesRegister
-loaded t n o m a e = ap settled (sym (again o)) ∙ in_register t n Dest.Any (bind o (λ r. ret (Operand.Register r))) m a (gives o) e
+loaded t n o m a e = ap settled (sym (again o)) ∙ in_register t n None (bind o (λ r. ret (Operand.Register r))) m a (gives o) e
   where
-    again : (o : Outcome Register) → bind (bind o (λ r. ret (Operand.Register r))) (λ src. materialized (source src) Dest.Any) ≡ o
+    again : (o : Outcome Register) → bind (bind o (λ r. ret (Operand.Register r))) (λ src. materialized (source src) None) ≡ o
     again (ends r m) = refl
     again (stops f m) = refl
 
@@ -212,7 +210,7 @@ unfolding OnlyAnswer bind
 answered_into e (ends r m) h = ap Operand.Register h
 answered_into e (stops f m) h = tt
 
-operand_into : (e : Register) (o : Outcome Operand) → GivesRegister o → OnlyAnswer e (bind o (λ src. materialized (source src) (Dest.To e))) → OnlyAnswer (Operand.Register e) o
+operand_into : (e : Register) (o : Outcome Operand) → GivesRegister o → OnlyAnswer e (bind o (λ src. materialized (source src) (Some e))) → OnlyAnswer (Operand.Register e) o
 unfolding GivesRegister OnlyAnswer bind source materialized
 operand_into e (ends (Operand.Register r) m) g h = ap Operand.Register h
 operand_into e (ends (Operand.Number x) m) g h = absurd g
@@ -223,129 +221,129 @@ operand_into e (stops f m) g h = tt
 
 -- an operator takes a register, and then it is as if that one was given
 binary_taken : {t : Tree} → Checked t → (i : ℕ) → node_word t.nodes i 0 ≡ binary_kind → (m : Made) →
-    lower_expression free_temp t i Dest.Any m ≡ bind (allocate_temp m) (λ e. lower_expression free_temp t i (Dest.To e))
+    lower_expression free_temp t i None m ≡ bind (allocate_temp m) (λ e. lower_expression free_temp t i (Some e))
 binary_taken {t} checked i kind m =
-    rw (expression_at checked i Dest.Any)
+    rw (expression_at checked i None)
     (simp (expression_at checked i, node_kind t i binary_kind kind) (binary_any t (lower_expression free_temp t) (lower_jump_if_false free_temp t) i _ _ _ m))
 
 -- in the register given
 pub flat_into : {t : Tree} → Checked t → (i d : ℕ) (m m' : Made) (a : ℕ) → node_word t.nodes i 0 ≤ binary_kind → d < any →
     settled (flat_node t ask_into d i m) ≡ seen t (operand_at (node t i)) m' a →
-    settled (lower_materializing (lower_expression free_temp t i) (Dest.To (register_at d)) m) ≡ seen t register_at m' a
+    settled (lower_materializing (lower_expression free_temp t i) (Some (register_at d)) m) ≡ seen t register_at m' a
 unfolding lower_materializing needing
 flat_into {t} checked i d m m' a simple few tried = go (dec_lt (node_word t.nodes i 0) name_kind)
   where
     operand : name_kind ≤ node_word t.nodes i 0 → Dec (node_word t.nodes i 0 ≡ name_kind) →
-        settled (lower_expression free_temp t i (Dest.To (register_at d)) m) ≡ seen t (operand_at (node t i)) m' a
+        settled (lower_expression free_temp t i (Some (register_at d)) m) ≡ seen t (operand_at (node t i)) m' a
     operand later (yes e) = rw (name_flat t ask_into d i m e) at tried
     operand later (no h) = rw (binary_flat t ask_into d i m (omega arith), ne_eqb d none (omega arith)) at tried
 
-    go : Dec (node_word t.nodes i 0 < name_kind) → settled (lower_materializing (lower_expression free_temp t i) (Dest.To (register_at d)) m) ≡ seen t register_at m' a
+    go : Dec (node_word t.nodes i 0 < name_kind) → settled (lower_materializing (lower_expression free_temp t i) (Some (register_at d)) m) ≡ seen t register_at m' a
     go (yes early) =
-        ap (λ w. settled (w m)) (literal_materialized t i (is_literal_lem t i early) (Dest.To (register_at d)))
-        ∙ (loaded t (node t i) (load_constant (literal (node t i)) (Dest.To (register_at d)) m) m' a
+        ap (λ w. settled (w m)) (literal_materialized t i (is_literal_lem t i early) (Some (register_at d)))
+        ∙ (loaded t (node t i) (load_constant (literal (node t i)) (Some (register_at d)) m) m' a
         (rw (literal_flat t ask_into d i m early (omega arith), ne_eqb d none (omega arith)) at tried))
     go (no h) =
         let later : name_kind ≤ node_word t.nodes i 0 = omega arith in
-        in_register t (node t i) (Dest.To (register_at d)) (lower_expression free_temp t i (Dest.To (register_at d)) m) m' a
-        (expression_register t i (no_literal checked i later) (Dest.To (register_at d)) m) (operand later (ℕ_discrete (node_word t.nodes i 0) name_kind))
+        in_register t (node t i) (Some (register_at d)) (lower_expression free_temp t i (Some (register_at d)) m) m' a
+        (expression_register t i (no_literal checked i later) (Some (register_at d)) m) (operand later (ℕ_discrete (node_word t.nodes i 0) name_kind))
 
 -- with no destination, where d is the register taken beforehand
 module _ {t : Tree} (checked : Checked t) (i asked : ℕ) (m m' : Made) (a d : ℕ) {after : Taken} (took : after ≡ taken (registers_of m)) (number : d ≡ number_at after.place)
     (simple : node_word t.nodes i 0 ≤ binary_kind) (word : WordOrRefusal a)
     (tried : (rs : RegisterSet) → settled (flat_node t asked d i (with_registers rs m)) ≡ seen t (operand_at (node t i)) (with_registers rs m') a) where
-  name_stays : node_word t.nodes i 0 ≡ name_kind → Holds (λ x m₁. Stays (source x)) (lower_expression free_temp t i Dest.Any m)
+  name_stays : node_word t.nodes i 0 ≡ name_kind → Holds (λ x m₁. Stays (source x)) (lower_expression free_temp t i None m)
   unfolding lower_node lower_name moved source Stays
-  name_stays kind = rw (expression_at checked i Dest.Any, node_kind t i name_kind kind) (go (lookup t.names (length t.names) (node_word t.nodes i 1)) refl)
+  name_stays kind = rw (expression_at checked i None, node_kind t i name_kind kind) (go (lookup t.names (length t.names) (node_word t.nodes i 1)) refl)
     where
-      go : (f : Found) → lookup t.names (length t.names) (node_word t.nodes i 1) ≡ f → Holds (λ x m₁. Stays (source x)) (lower_name t i f Dest.Any m)
-      go (Found.At r) e = fine (subst (λ r. Stays (register r)) (sym (lookup_found t.names (length t.names) (node_word t.nodes i 1) r e).local) tt)
-      go (Found.Refused refusal) e = void
+      go : (f : Result Register Refusal) → lookup t.names (length t.names) (node_word t.nodes i 1) ≡ f → Holds (λ x m₁. Stays (source x)) (lower_name t i f None m)
+      go (Ok r) e = fine (subst (λ r. Stays (register r)) (sym (lookup_found t.names (length t.names) (node_word t.nodes i 1) r e).local) tt)
+      go (Err refusal) e = void
 
   -- a name or an operator
   later_operand : name_kind ≤ node_word t.nodes i 0 → asked ≢ ask_into →
-      settled (lower_expression free_temp t i Dest.Any m) ≡ seen t (operand_at (node t i)) (keeping m after.set d a m') a
+      settled (lower_expression free_temp t i None m) ≡ seen t (operand_at (node t i)) (keeping m after.set d a m') a
   unfolding lower_materializing
   later_operand later q = go (ℕ_discrete (node_word t.nodes i 0) name_kind)
     where
-      go : Dec (node_word t.nodes i 0 ≡ name_kind) → settled (lower_expression free_temp t i Dest.Any m) ≡ seen t (operand_at (node t i)) (keeping m after.set d a m') a
+      go : Dec (node_word t.nodes i 0 ≡ name_kind) → settled (lower_expression free_temp t i None m) ≡ seen t (operand_at (node t i)) (keeping m after.set d a m') a
       go (yes e) =
-          stays t (node t i) m m' a d took number (lower_expression free_temp t i Dest.Any m) (name_stays e)
+          stays t (node t i) m m' a d took number (lower_expression free_temp t i None m) (name_stays e)
           (rw (name_flat t asked d i m e, ne_eqb asked ask_into q) at (tried (registers_of m)))
       go (no h) =
           let kind : node_word t.nodes i 0 ≡ binary_kind = omega arith in
-          let into : (e : Register) (m₁ : Made) → OnlyAnswer (Operand.Register e) (lower_expression free_temp t i (Dest.To e) m₁) =
-          λ e m₁. operand_into e (lower_expression free_temp t i (Dest.To e) m₁) (expression_register t i (no_literal checked i later) (Dest.To e) m₁) (expression_into t i e m₁) in
+          let into : (e : Register) (m₁ : Made) → OnlyAnswer (Operand.Register e) (lower_expression free_temp t i (Some e) m₁) =
+          λ e m₁. operand_into e (lower_expression free_temp t i (Some e) m₁) (expression_register t i (no_literal checked i later) (Some e) m₁) (expression_into t i e m₁) in
           rw (binary_taken checked i kind m)
-          (takes t (node t i) m m' a d took number (λ e. lower_expression free_temp t i (Dest.To e)) into word
+          (takes t (node t i) m m' a d took number (λ e. lower_expression free_temp t i (Some e)) into word
           (λ rs. rw (binary_flat t asked d i (with_registers rs m) kind) at (tried rs)))
 
   -- a literal is its operand
   literal_operand : node_word t.nodes i 0 < name_kind → asked ≡ ask_operand →
-      settled (lower_expression free_temp t i Dest.Any m) ≡ seen t (operand_at (node t i)) (keeping m after.set d a m') a
+      settled (lower_expression free_temp t i None m) ≡ seen t (operand_at (node t i)) (keeping m after.set d a m') a
   unfolding Stays settled
   literal_operand early q =
-      rw (literal_expression t i (is_literal_lem t i early) Dest.Any)
+      rw (literal_expression t i (is_literal_lem t i early) None)
       (stays t (node t i) m m' a d took number (ends (literal (node t i)) m) (fine (rw (literal_source (node t i)) tt))
       (rw (literal_itself t asked d i m early q) at (tried (registers_of m))))
 
   -- or is loaded
   literal_register : node_word t.nodes i 0 < name_kind → asked ≢ ask_operand →
-      settled (lower_materializing (lower_expression free_temp t i) Dest.Any m) ≡ seen t register_at (keeping m after.set d a m') a
+      settled (lower_materializing (lower_expression free_temp t i) None m) ≡ seen t register_at (keeping m after.set d a m') a
   unfolding load_constant destination bind
   literal_register early q =
-      let load : Register → Walk Register = λ e. load_constant (literal (node t i)) (Dest.To e) in
-      let into : (e : Register) (m₁ : Made) → OnlyAnswer e (load e m₁) = λ e m₁. rw (literal_materialized t i (is_literal_lem t i early) (Dest.To e)) at (expression_into t i e m₁) in
-      rw (literal_materialized t i (is_literal_lem t i early) Dest.Any)
+      let load : Register → Walk Register = λ e. load_constant (literal (node t i)) (Some e) in
+      let into : (e : Register) (m₁ : Made) → OnlyAnswer e (load e m₁) = λ e m₁. rw (literal_materialized t i (is_literal_lem t i early) (Some e)) at (expression_into t i e m₁) in
+      rw (literal_materialized t i (is_literal_lem t i early) None)
       (loaded t (node t i) (bind (allocate_temp m) load) (keeping m after.set d a m') a
       (ap settled (bind_bind (allocate_temp m) load (λ r. ret (Operand.Register r)))
       ∙ takes t (node t i) m m' a d took number (λ e m₁. bind (load e m₁) (λ r. ret (Operand.Register r))) (λ e m₁. answered_into e (load e m₁) (into e m₁)) word
       (λ rs. rw (literal_flat t asked d i (with_registers rs m) early q) at (tried rs))))
 
   flat_operand : asked ≡ ask_operand →
-      settled (lower_expression free_temp t i Dest.Any m) ≡ seen t (operand_at (node t i)) (keeping m after.set d a m') a
+      settled (lower_expression free_temp t i None m) ≡ seen t (operand_at (node t i)) (keeping m after.set d a m') a
   flat_operand q = go (dec_lt (node_word t.nodes i 0) name_kind)
     where
-      go : Dec (node_word t.nodes i 0 < name_kind) → settled (lower_expression free_temp t i Dest.Any m) ≡ seen t (operand_at (node t i)) (keeping m after.set d a m') a
+      go : Dec (node_word t.nodes i 0 < name_kind) → settled (lower_expression free_temp t i None m) ≡ seen t (operand_at (node t i)) (keeping m after.set d a m') a
       go (yes early) = literal_operand early q
       go (no h) = later_operand (omega arith) (omega arith)
 
   flat_register : asked ≡ ask_register →
-      settled (lower_materializing (lower_expression free_temp t i) Dest.Any m) ≡ seen t register_at (keeping m after.set d a m') a
+      settled (lower_materializing (lower_expression free_temp t i) None m) ≡ seen t register_at (keeping m after.set d a m') a
   unfolding lower_materializing
   flat_register q = go (dec_lt (node_word t.nodes i 0) name_kind)
     where
       go : Dec (node_word t.nodes i 0 < name_kind) →
-          settled (lower_materializing (lower_expression free_temp t i) Dest.Any m) ≡ seen t register_at (keeping m after.set d a m') a
+          settled (lower_materializing (lower_expression free_temp t i) None m) ≡ seen t register_at (keeping m after.set d a m') a
       go (yes early) = literal_register early (omega arith)
       go (no h) =
           let later : name_kind ≤ node_word t.nodes i 0 = omega arith in
-          in_register t (node t i) Dest.Any (lower_expression free_temp t i Dest.Any m) (keeping m after.set d a m') a
-          (expression_register t i (no_literal checked i later) Dest.Any m) (later_operand later (omega arith))
+          in_register t (node t i) None (lower_expression free_temp t i None m) (keeping m after.set d a m') a
+          (expression_register t i (no_literal checked i later) None m) (later_operand later (omega arith))
 
 -- the same, by what `lower_flat` ensures, and by the registers that are held afterwards
-module _ (nodes names code code' pool pool' : List ℕ) (i asked d : ℕ) (s : State) (rs : RegisterSet) (f : AnswerAndCounts) {after : Taken} {A : Type 0} (took : after ≡ taken s.registers)
+module _ (nodes names code code' pool pool' marks marks' : List ℕ) (i asked d : ℕ) (s : State) (rs : RegisterSet) (f : AnswerAndCounts) {after : Taken} {A : Type 0} (took : after ≡ taken s.registers)
     (number : d ≡ number_at after.place) (held : rs ≡ holding s.registers after.set d f.answer) (simple : node_word_of nodes i 0 ≤ binary_kind) (small : i < word_end)
     (left : is_flat nodes i ≡ false → (f ≡ record { instructions = s.instructions; constants = s.constants; answer = word_end + i }) × A)
     (word : is_flat nodes i ≡ true → WordOrRefusal f.answer)
-    (tried : (list : List ℕ) (rs : RegisterSet) (n : ℕ) (m : List ℕ) → Checked (tree_of nodes list names) → is_flat nodes i ≡ true →
-    settled (flat_node (tree_of nodes list names) asked d i (made code pool m (state_of rs s.instructions s.constants n)))
-    ≡ seen (tree_of nodes list names) (operand_at (node_at (words nodes) i)) (made code' pool' m (state_of rs f.instructions f.constants n)) f.answer)
-    (list m : List ℕ) (checked : Checked (tree_of nodes list names)) (told : is_inner f.answer ≡ false) where
+    (tried : (list : List ℕ) (rs : RegisterSet) (n : ℕ) → Checked (tree_of nodes list names) → is_flat nodes i ≡ true →
+    settled (flat_node (tree_of nodes list names) asked d i (made code pool marks (state_of rs s.instructions s.constants n)))
+    ≡ seen (tree_of nodes list names) (operand_at (node_at (words nodes) i)) (made code' pool' marks' (state_of rs f.instructions f.constants n)) f.answer)
+    (list : List ℕ) (checked : Checked (tree_of nodes list names)) (told : is_inner f.answer ≡ false) where
   pub peeked_operand : asked ≡ ask_operand →
-      settled (lower_expression free_temp (tree_of nodes list names) i Dest.Any (made code pool m s))
-      ≡ seen (tree_of nodes list names) (operand_at (node_at (words nodes) i)) (made code' pool' m (state_of rs f.instructions f.constants s.marks)) f.answer
+      settled (lower_expression free_temp (tree_of nodes list names) i None (made code pool marks s))
+      ≡ seen (tree_of nodes list names) (operand_at (node_at (words nodes) i)) (made code' pool' marks' (state_of rs f.instructions f.constants s.marks)) f.answer
   peeked_operand q =
       let flat = was_flat nodes i f small left told in
       rw held
-      (flat_operand checked i asked (made code pool m s) (made code' pool' m (state_of rs f.instructions f.constants s.marks)) f.answer d took number simple (word flat)
-      (λ rs. tried list rs s.marks m checked flat) q)
+      (flat_operand checked i asked (made code pool marks s) (made code' pool' marks' (state_of rs f.instructions f.constants s.marks)) f.answer d took number simple (word flat)
+      (λ rs. tried list rs s.marks checked flat) q)
 
   pub peeked_register : asked ≡ ask_register →
-      settled (lower_materializing (lower_expression free_temp (tree_of nodes list names) i) Dest.Any (made code pool m s))
-      ≡ seen (tree_of nodes list names) register_at (made code' pool' m (state_of rs f.instructions f.constants s.marks)) f.answer
+      settled (lower_materializing (lower_expression free_temp (tree_of nodes list names) i) None (made code pool marks s))
+      ≡ seen (tree_of nodes list names) register_at (made code' pool' marks' (state_of rs f.instructions f.constants s.marks)) f.answer
   peeked_register q =
       let flat = was_flat nodes i f small left told in
       rw held
-      (flat_register checked i asked (made code pool m s) (made code' pool' m (state_of rs f.instructions f.constants s.marks)) f.answer d took number simple (word flat)
-      (λ rs. tried list rs s.marks m checked flat) q)
+      (flat_register checked i asked (made code pool marks s) (made code' pool' marks' (state_of rs f.instructions f.constants s.marks)) f.answer d took number simple (word flat)
+      (λ rs. tried list rs s.marks checked flat) q)

@@ -1,4 +1,5 @@
 -- What is read of a node: what it is by the number of its kind, the node that a block comes to, and the register of a name. Assumes nothing.
+use Rattle.std.specs.Prelude.{Option, Some, None, Result, Ok, Err}
 use Prim.Native.Nat.{ℕ, zero, suc, ◌+◌, ◌%◌, ◌<◌, ◌≤◌}
 use native.Mathlib.Omega.{arith}
 use native.Mathlib.Decide.{dec_lt, ℕ_discrete}
@@ -11,7 +12,6 @@ use lib.ListN.{length, get_or}
 use borrow.Author.Tests.{lt-ltb, le-ltb, leb-true, eq-eqb, ne_eqb, eqb-true}
 use Rattle.diagnostics.specs.declared.Refusal.{Refusal}
 use Rattle.environment.specs.declared.Register.{Register}
-use Rattle.environment.specs.declared.Found.{Found}
 use Rattle.environment.specs.Environment.{lookup}
 use Rattle.environment.specs.Laws.{Last}
 use Rattle.environment.proofs.Laws.{lookup_found, lookup_refused}
@@ -20,7 +20,6 @@ use Rattle.syntax.specs.Ast.{absent, node_kinds, node_word, node_at}
 use Rattle.runtime.specs.declared.instruction.Instruction.{Instruction}
 use Rattle.runtime.specs.declared.operand.Operand.{Operand}
 use Rattle.runtime.specs.Operands.{reg_of}
-use Rattle.lowering.specs.declared.Dest.{Dest}
 use Rattle.lowering.specs.Tree.{Tree, tree_of}
 use Rattle.lowering.specs.Checked.{Checked}
 use Rattle.lowering.specs.Walk.{Made, Outcome, bind, ret}
@@ -77,8 +76,8 @@ abbrev pub Comes : List ℕ → ℕ → ℕ → Type 0
 Comes nodes node n =
     (InArena nodes n × (n ≤ node))
     × ((list names : List ℕ) (d : Register) (m : Made) → Checked (tree_of nodes list names) →
-    lower_materializing (lower_expression free_temp (tree_of nodes list names) node) (Dest.To d) m
-    ≡ lower_materializing (lower_expression free_temp (tree_of nodes list names) n) (Dest.To d) m)
+    lower_materializing (lower_expression free_temp (tree_of nodes list names) node) (Some d) m
+    ≡ lower_materializing (lower_expression free_temp (tree_of nodes list names) n) (Some d) m)
 
 module _ {nodes : List ℕ} (falling : Falling nodes) {node n kind tail : ℕ} (comes : Comes nodes node n)
     (kind_read : kind ≡ node_word_of nodes n 0) (block : kind ≡ block_kind) (tail_read : tail ≡ node_word_of nodes n 1) (some : tail ≢ absent) where
@@ -96,23 +95,23 @@ module _ {nodes : List ℕ} (falling : Falling nodes) {node n kind tail : ℕ} (
 -- ---- a name
 
 -- what was found, as a word: a local's, or none
-module _ (names : List ℕ) (n name : ℕ) {f : Found} (found : f ≡ lookup names n name) where
-  last : {register : Register} → f ≡ Found.At register → Last names n name register
+module _ (names : List ℕ) (n name : ℕ) {f : Result Register Refusal} (found : f ≡ lookup names n name) where
+  last : {register : Register} → f ≡ Ok register → Last names n name register
   last e = lookup_found names n name _ (sym found ∙ e)
 
-  pub found_temporary : {r : ℕ} → f ≡ Found.At (Register.Temp r) → ⊥
+  pub found_temporary : {r : ℕ} → f ≡ Ok (Register.Temp r) → ⊥
   found_temporary e =
       let differ : ◌≡◌ {A = ℕ} 0 1 = cc (last e).local in
       omega arith
 
-  pub found_local : {r : ℕ} → f ≡ Found.At (Register.Local r) → n ≤ 256 → (found_at (256 + r % 256) ≡ lookup names n name) × LocalOr (256 + r % 256)
+  pub found_local : {r : ℕ} → f ≡ Ok (Register.Local r) → n ≤ 256 → (found_at (256 + r % 256) ≡ lookup names n name) × LocalOr (256 + r % 256)
   unfolding found_at
   found_local {r} e h =
       let same : r ≡ (last e).index = cc (last e).local in
       let below : r < 256 = omega (arith, (last e).in_range) in
       (rw (← found, e, ne_eqb (256 + r % 256) none (omega arith), register_at_local r below), inr (omega arith, omega arith))
 
-  pub found_none : {refusal : Refusal} → f ≡ Found.Refused refusal → found_at none ≡ lookup names n name
+  pub found_none : {refusal : Refusal} → f ≡ Err refusal → found_at none ≡ lookup names n name
   unfolding found_at
   found_none e = rw (← found, e, (lookup_refused names n name _ (sym found ∙ e)).reason)
 
@@ -144,17 +143,17 @@ another_small dest w h another = go (ℕ_discrete dest any)
 
 module _ (t : Tree) (i : ℕ) (m : Made) where
   -- a name is lowered by what was found of it
-  pub named_at : (dest : Dest) {f : Found} → node_word t.nodes i 0 ≡ name_kind → f ≡ lookup t.names (length t.names) (node_word t.nodes i 1) →
+  pub named_at : (dest : Option Register) {f : Result Register Refusal} → node_word t.nodes i 0 ≡ name_kind → f ≡ lookup t.names (length t.names) (node_word t.nodes i 1) →
       lower_expression free_temp t i dest m ≡ lower_name t i f dest m
   unfolding lower_expression expression_below lower_node
   named_at dest kind found = rw (node_kind t i name_kind kind, ← found)
 
-  pub name_of : (dest : Dest) {f : Found} {r : Outcome Operand} → node_word t.nodes i 0 ≡ name_kind → f ≡ lookup t.names (length t.names) (node_word t.nodes i 1) →
+  pub name_of : (dest : Option Register) {f : Result Register Refusal} {r : Outcome Operand} → node_word t.nodes i 0 ≡ name_kind → f ≡ lookup t.names (length t.names) (node_word t.nodes i 1) →
       settled (lower_name t i f dest m) ≡ r → settled (lower_expression free_temp t i dest m) ≡ r
   name_of dest kind found q = ap settled (named_at dest kind found) ∙ q
 
   -- it is not declared
-  pub name_undeclared : (dest : Dest) (gives : ℕ → Operand) {w : ℕ} → i < word_end → w ≡ none → settled (lower_name t i (found_at w) dest m) ≡ seen t gives m (refusal_at Refusal.Undeclared i)
+  pub name_undeclared : (dest : Option Register) (gives : ℕ → Operand) {w : ℕ} → i < word_end → w ≡ none → settled (lower_name t i (found_at w) dest m) ≡ seen t gives m (refusal_at Refusal.Undeclared i)
   unfolding lower_name found_at settled error_at names_node
   name_undeclared dest gives {w} h e = rw (eq-eqb w none e) (sym (seen_refusal t gives m Refusal.Undeclared i h))
 
@@ -164,7 +163,7 @@ module _ (t : Tree) (i : ℕ) (m : Made) where
     unfolding lower_name found_at moved dest_of settled
     name_own n own = rw (ne_eqb w none declared) (go (ℕ_discrete dest any))
       where
-        go : Dec (dest ≡ any) → settled (moved t (register_at w) (cond (eqb dest any) Dest.Any (Dest.To (register_at dest))) m) ≡ seen t (operand_at n) m w
+        go : Dec (dest ≡ any) → settled (moved t (register_at w) (cond (eqb dest any) None (Some (register_at dest))) m) ≡ seen t (operand_at n) m w
         go (yes e) = rw (eq-eqb dest any e) (ended t n m w (local_word local declared).1)
         go (no e) =
             let same : eqb dest w ≡ true = rw (ne_eqb dest any e) at own in

@@ -1,5 +1,6 @@
 -- The laws by which a function of the walk does what its clause of the definition says: what a node's kind gives, a child that was tried and then walked, a
 -- register given back, and the end of an arm. Assumes nothing.
+use Rattle.std.specs.Prelude.{Option, Some, None}
 use Prim.Native.Nat.{ℕ, zero, suc, ◌-◌, ◌<◌, ◌≤◌}
 use native.Mathlib.Omega.{arith}
 use native.Mathlib.Decide.{ℕ_discrete}
@@ -14,7 +15,6 @@ use Rattle.environment.specs.Registers.{given_back}
 use Rattle.syntax.specs.declared.ast.Node.{Node}
 use Rattle.syntax.specs.Ast.{node_kinds, node_word}
 use Rattle.runtime.specs.declared.operand.Operand.{Operand}
-use Rattle.lowering.specs.declared.Dest.{Dest}
 use Rattle.lowering.specs.Tree.{Tree, tree_of, node}
 use Rattle.lowering.specs.Checked.{Checked, Below}
 use Rattle.lowering.specs.Walk.{Made, Outcome, ends, Walk, bind, ret}
@@ -40,7 +40,7 @@ module _ {t : Tree} (checked : Checked t) (i k : ℕ) (kind : node_word t.nodes 
   pub below_of : Below t i (node_of_kind t i k)
   below_of = subst (λ n. Below t i n) (node_kind t i k kind) (checked_below checked i)
 
-  pub expression_of : (dest : Dest) (m : Made) {r : Outcome Operand} →
+  pub expression_of : (dest : Option Register) (m : Made) {r : Outcome Operand} →
       settled (lower_node free_temp t (lower_expression free_temp t) (lower_jump_if_false free_temp t) i (node_of_kind t i k) dest m) ≡ r → settled (lower_expression free_temp t i dest m) ≡ r
   expression_of dest m q = rw (expression_at checked i dest, node_kind t i k kind) q
 
@@ -88,7 +88,7 @@ pub no_literal : {t : Tree} → Checked t → (i : ℕ) → name_kind ≤ node_w
 no_literal {t} checked i h = rw (node_kind t i (node_word t.nodes i 0) refl) (later_kind (node_word t.nodes i 0) _ _ _ h (kind_word (checked_at checked i)))
 
 -- a literal is its operand, and its value in a register is loaded
-module _ (t : Tree) (i : ℕ) (l : is_literal (node t i) ≡ true) (dest : Dest) where
+module _ (t : Tree) (i : ℕ) (l : is_literal (node t i) ≡ true) (dest : Option Register) where
   pub literal_expression : lower_expression free_temp t i dest ≡ ret (literal (node t i))
   unfolding lower_expression expression_below
   literal_expression = literal_of t (λ n e. expression_below free_temp t i n e) (λ n. jump_below free_temp t i n) i (node t i) l dest
@@ -109,7 +109,7 @@ no_register (Operand.Boolean b) c m e g = g
 no_register Operand.Nil c m e g = g
 
 -- an operand in a register, by what is seen of its word
-gives_register : (n : Node) (dest : Dest) (w : ℕ) (m : Made) → GivesRegister (ends (operand_at n w) m) → settled (materialized (source (operand_at n w)) dest m) ≡ ends (register_at w) m
+gives_register : (n : Node) (dest : Option Register) (w : ℕ) (m : Made) → GivesRegister (ends (operand_at n w) m) → settled (materialized (source (operand_at n w)) dest m) ≡ ends (register_at w) m
 unfolding operand_at source materialized settled
 gives_register n dest w m g = go (ℕ_discrete w literal_word)
   where
@@ -117,7 +117,7 @@ gives_register n dest w m g = go (ℕ_discrete w literal_word)
     go (yes h) = absurd (no_register (literal n) (literal n) m (literal_source n) (rw (eq-eqb w literal_word h) at g))
     go (no h) = rw (ne_eqb w literal_word h)
 
-pub in_register : (t : Tree) (n : Node) (dest : Dest) (o : Outcome Operand) (m : Made) (a : ℕ) → GivesRegister o →
+pub in_register : (t : Tree) (n : Node) (dest : Option Register) (o : Outcome Operand) (m : Made) (a : ℕ) → GivesRegister o →
     settled o ≡ seen t (operand_at n) m a → settled (bind o (λ src. materialized (source src) dest)) ≡ seen t register_at m a
 in_register t n dest o m a g e = go (is_refusal a) refl
   where
@@ -143,46 +143,46 @@ module _ {t : Tree} (checked : Checked t) (n : ℕ) (m m₀ m₁ m₂ : Made) (a
       go true h = y h
 
   -- its operand
-  pub child_operand : (is_inner a ≡ false → settled (lower_expression free_temp t n Dest.Any m) ≡ seen t (operand_at (node t n)) m₁ a) → (is_inner a ≡ true → value_of a ≡ n) →
+  pub child_operand : (is_inner a ≡ false → settled (lower_expression free_temp t n None m) ≡ seen t (operand_at (node t n)) m₁ a) → (is_inner a ≡ true → value_of a ≡ n) →
       (is_inner a ≡ true → settled (lower_expression free_temp t (value_of a) (dest_of any) m₀) ≡ seen t (operand_at (node t (value_of a))) m₂ b) →
-      settled (lower_expression free_temp t n Dest.Any m) ≡ seen t (operand_at (node t n)) m₂ b
+      settled (lower_expression free_temp t n None m) ≡ seen t (operand_at (node t n)) m₂ b
   child_operand tried same walked =
       by_trial (λ h. flat (operand_at (node t n)) _ h (tried h)) (λ h. rw (same h, back h, dest_of_any) at (walked h))
 
   -- its value in a register
-  pub child_register : (is_inner a ≡ false → settled (lower_materializing (lower_expression free_temp t n) Dest.Any m) ≡ seen t register_at m₁ a) → (is_inner a ≡ true → value_of a ≡ n) →
+  pub child_register : (is_inner a ≡ false → settled (lower_materializing (lower_expression free_temp t n) None m) ≡ seen t register_at m₁ a) → (is_inner a ≡ true → value_of a ≡ n) →
       (is_inner a ≡ true → binary_kind ≤ node_word t.nodes n 0) →
       (is_inner a ≡ true → settled (lower_expression free_temp t (value_of a) (dest_of any) m₀) ≡ seen t (operand_at (node t (value_of a))) m₂ b) →
-      settled (lower_materializing (lower_expression free_temp t n) Dest.Any m) ≡ seen t register_at m₂ b
+      settled (lower_materializing (lower_expression free_temp t n) None m) ≡ seen t register_at m₂ b
   unfolding lower_materializing
   child_register tried same kind walked =
       by_trial
       (λ h. flat register_at _ h (tried h))
       (λ h.
-      in_register t (node t n) Dest.Any (lower_expression free_temp t n Dest.Any m) m₂ b (expression_register t n (no_literal checked n (omega (arith, kind h))) Dest.Any m)
+      in_register t (node t n) None (lower_expression free_temp t n None m) m₂ b (expression_register t n (no_literal checked n (omega (arith, kind h))) None m)
       (rw (same h, back h, dest_of_any) at (walked h)))
 
   -- its value in d
-  pub child_into : (d : ℕ) → d < any → (is_inner a ≡ false → settled (lower_materializing (lower_expression free_temp t n) (Dest.To (register_at d)) m) ≡ seen t register_at m₁ a) →
-      (is_inner a ≡ true → lower_materializing (lower_expression free_temp t n) (Dest.To (register_at d)) m ≡ lower_materializing (lower_expression free_temp t (value_of a)) (Dest.To (register_at d)) m) →
+  pub child_into : (d : ℕ) → d < any → (is_inner a ≡ false → settled (lower_materializing (lower_expression free_temp t n) (Some (register_at d)) m) ≡ seen t register_at m₁ a) →
+      (is_inner a ≡ true → lower_materializing (lower_expression free_temp t n) (Some (register_at d)) m ≡ lower_materializing (lower_expression free_temp t (value_of a)) (Some (register_at d)) m) →
       (is_inner a ≡ true → binary_kind ≤ node_word t.nodes (value_of a) 0) →
       (is_inner a ≡ true → settled (lower_expression free_temp t (value_of a) (dest_of d) m₀) ≡ seen t (operand_at (node t (value_of a))) m₂ b) →
-      settled (lower_materializing (lower_expression free_temp t n) (Dest.To (register_at d)) m) ≡ seen t register_at m₂ b
+      settled (lower_materializing (lower_expression free_temp t n) (Some (register_at d)) m) ≡ seen t register_at m₂ b
   unfolding lower_materializing
   child_into d few tried same kind walked = by_trial (λ h. flat register_at _ h (tried h)) (λ h. ap settled (same h) ∙ into h)
     where
-      into : is_inner a ≡ true → settled (lower_materializing (lower_expression free_temp t (value_of a)) (Dest.To (register_at d)) m) ≡ seen t register_at m₂ b
+      into : is_inner a ≡ true → settled (lower_materializing (lower_expression free_temp t (value_of a)) (Some (register_at d)) m) ≡ seen t register_at m₂ b
       into h =
           let l = no_literal checked (value_of a) (omega (arith, kind h)) in
-          in_register t (node t (value_of a)) (Dest.To (register_at d)) (lower_expression free_temp t (value_of a) (Dest.To (register_at d)) m) m₂ b
-          (expression_register t (value_of a) l (Dest.To (register_at d)) m) (rw (back h, dest_of_to d (omega (arith, few))) at (walked h))
+          in_register t (node t (value_of a)) (Some (register_at d)) (lower_expression free_temp t (value_of a) (Some (register_at d)) m) m₂ b
+          (expression_register t (value_of a) l (Some (register_at d)) m) (rw (back h, dest_of_to d (omega (arith, few))) at (walked h))
 
 -- ---- what follows a child, and the end of an arm
 
 module _ (t : Tree) {B : Type 0} (m : Made) (k : Register → Walk B) where
   -- a value in d: the rest takes d for the answer
-  pub then_into : (n : ℕ) (d : Register) (m₂ : Made) (b : ℕ) {r : Outcome B} → settled (lower_materializing (lower_expression free_temp t n) (Dest.To d) m) ≡ seen t register_at m₂ b →
-      is_refusal b ≡ false → settled (k d m₂) ≡ r → settled (bind (lower_materializing (lower_expression free_temp t n) (Dest.To d) m) k) ≡ r
+  pub then_into : (n : ℕ) (d : Register) (m₂ : Made) (b : ℕ) {r : Outcome B} → settled (lower_materializing (lower_expression free_temp t n) (Some d) m) ≡ seen t register_at m₂ b →
+      is_refusal b ≡ false → settled (k d m₂) ≡ r → settled (bind (lower_materializing (lower_expression free_temp t n) (Some d) m) k) ≡ r
   then_into n d m₂ b e h q =
       ap settled (only_answer d _ k (expression_into t n d m)) ∙ then t _ register_at m₂ b (λ y. k d) e h q
 

@@ -1,5 +1,6 @@
 -- Every word that the definition leaves is below 2^32 where those at entry are, so that the words of the buffers at exit are the definition's; and the
 -- bytes at exit past any word from which on nothing changed are those at entry. Assumes nothing.
+use Rattle.std.specs.Prelude.{Some, None}
 use Prim.Native.Nat.{ℕ, zero, suc, ◌+◌, ◌*◌, ◌-◌, ◌/◌, ◌%◌, ◌≤◌, ◌<◌}
 use native.Mathlib.Omega.{arith}
 use native.Mathlib.Nat.{lt_of_lt_of_le}
@@ -7,7 +8,6 @@ use native.Mathlib.Decide.{dec_lt, ℕ_discrete}
 use lib.Dec.{eqb}
 use mathlib.Core.Path.{◌≡◌, refl, sym, ap, ◌∙◌, subst}
 use mathlib.Core.Bool.{Bool, true, false, cond}
-use mathlib.Core.Option.{none, some}
 use mathlib.Core.List.{List, [], ◌∷◌, ◌++◌}
 use lib.Ieee.{binary64}
 use lib.Ieee.Bits.{of_bits-fits, to_bits-lt}
@@ -178,16 +178,16 @@ unfolding constant_words
 nil_words = three _ _ _ (omega arith) (omega arith) (omega arith)
 
 abbrev Fine : Node → Type 0
-Fine n = (c : Operand) → constant_of_node n ≡ some c → Words (constant_words c)
+Fine n = (c : Operand) → constant_of_node n ≡ Some c → Words (constant_words c)
 
 -- the constant of a node that has one, and a node that has none
-fine_some : {x : Operand} → Words (constant_words x) → (c : Operand) → some x ≡ some c → Words (constant_words c)
+fine_some : {x : Operand} → Words (constant_words x) → (c : Operand) → Some x ≡ Some c → Words (constant_words c)
 fine_some {x} h c e = let same : x ≡ c = cc in subst (λ y. Words (constant_words y)) same h
 
-fine_none : (c : Operand) → none ≡ some c → Words (constant_words c)
+fine_none : (c : Operand) → None ≡ Some c → Words (constant_words c)
 fine_none c e = let z : ◌≡◌ {A = ℕ} 0 1 = cc in absurd (omega arith)
 
-fine_tail : (b : Bool) (c : Operand) → cond b (some Operand.Nil) none ≡ some c → Words (constant_words c)
+fine_tail : (b : Bool) (c : Operand) → cond b (Some Operand.Nil) None ≡ Some c → Words (constant_words c)
 fine_tail true c e = fine_some nil_words c e
 fine_tail false c e = fine_none c e
 

@@ -1,18 +1,14 @@
 -- Flat nodes: literals, names, and operators on these, not on two literals. They are lowered in place, on two counts, with no call of the walk.
-use Rattle.std.specs.Prelude.{ℕ, ◌≤◌, ◌<◌, ◌≡◌, ◌≢◌, ◌⊎◌, Bool, cond, ◌&&◌, ◌||◌, List, leb, ltb, eqb, length}
+use Rattle.std.specs.Prelude.{ℕ, ◌≤◌, ◌<◌, ◌≡◌, ◌≢◌, ◌⊎◌, Bool, cond, ◌&&◌, ◌||◌, List, leb, ltb, eqb, Some, None, Result, Ok, Err}
+use Rattle.environment.specs.declared.Register.{Register}
 use Rattle.diagnostics.specs.declared.Refusal.{Refusal}
-use Rattle.words.specs.Words.{words}
-use Rattle.environment.specs.declared.Found.{Found}
 use Rattle.syntax.specs.Ast.{node_word, absent}
 use Rattle.runtime.specs.declared.operand.Operand.{Operand}
-use Rattle.lowering.specs.declared.Dest.{Dest}
-use Rattle.lowering.specs.declared.State.{State}
 use Rattle.lowering.specs.Tree.{Tree, node}
 use Rattle.lowering.specs.Walk.{stops, Walk, ◌>>=◌, ret, unnamed}
 use Rattle.lowering.specs.Steps.{free_temp, load_constant}
 use Rattle.lowering.specs.Literals.{literal}
 use Rattle.lowering.specs.Lower.{lower_expression}
-use Rattle.steps.specs.declared.answer.AnswerAndState.{AnswerAndState}
 use Rattle.steps.specs.Answers.{none, any, register_at}
 use Rattle.codegen.specs.Ready.{InArena, node_word_of}
 use Rattle.codegen.specs.Kinds.{name_kind, binary_kind, block_kind}
@@ -27,10 +23,6 @@ pub record Falling (nodes : List ℕ) : Type 0 where
 abbrev pub Given : ℕ → Type 0
 Given d = (d ≡ none) ⊎ (d < any)
 
--- a node to look at
-abbrev pub FlatReady : List ℕ → List ℕ → ℕ → Type 0
-FlatReady nodes names i = Falling nodes × ((length (words names) ≤ 256) × InArena nodes i)
-
 -- two nodes are literals or names, and not both literals
 unfoldable pub are_leaves : List ℕ → ℕ → ℕ → Bool
 are_leaves nodes left right =
@@ -40,8 +32,8 @@ unfoldable pub is_flat : List ℕ → ℕ → Bool
 is_flat nodes i = cond (eqb (node_word_of nodes i 0) binary_kind) (are_leaves nodes (node_word_of nodes i 2) (node_word_of nodes i 3)) (leb (node_word_of nodes i 0) name_kind)
 
 -- a name's register by its word: `none` where it is not declared
-unfoldable pub found_at : ℕ → Found
-found_at w = cond (eqb w none) (Found.Refused Refusal.Undeclared) (Found.At (register_at w))
+unfoldable pub found_at : ℕ → Result Register Refusal
+found_at w = cond (eqb w none) (Err Refusal.Undeclared) (Ok (register_at w))
 
 -- a name's word is `none` or a local's
 abbrev pub LocalOr : ℕ → Type 0
@@ -65,11 +57,7 @@ needing d w = cond (eqb d none) (λ m. stops (unnamed Refusal.Registers) m) w
 unfoldable pub flat_node : Tree → ℕ → ℕ → ℕ → Walk Operand
 flat_node t asked d i =
     cond (ltb (node_word t.nodes i 0) name_kind)
-    (cond (eqb asked ask_operand) (ret (literal (node t i))) (needing d (load_constant (literal (node t i)) (Dest.To (register_at d)) >>= λ r. ret (Operand.Register r))))
+    (cond (eqb asked ask_operand) (ret (literal (node t i))) (needing d (load_constant (literal (node t i)) (Some (register_at d)) >>= λ r. ret (Operand.Register r))))
     (cond (eqb (node_word t.nodes i 0) name_kind)
-    (lower_expression free_temp t i (cond (eqb asked ask_into) (Dest.To (register_at d)) Dest.Any))
-    (needing d (lower_expression free_temp t i (Dest.To (register_at d)))))
-
--- nothing was done: the state and both buffers are as they were
-abbrev pub NothingDone : (code code' constants constants' : List ℕ) → State → AnswerAndState → Type 0
-NothingDone code code' constants constants' state r = (r.state ≡ state) × ((words code' ≡ words code) × (words constants' ≡ words constants))
+    (lower_expression free_temp t i (cond (eqb asked ask_into) (Some (register_at d)) None))
+    (needing d (lower_expression free_temp t i (Some (register_at d)))))

@@ -1,12 +1,12 @@
 -- The kinds of nodes by their numbers, and what the arms of the walk ask of a node's words.
-use Rattle.std.specs.Prelude.{ℕ, Bool, false, cond, List, eqb}
+use Rattle.std.specs.Prelude.{ℕ, Bool, false, cond, List, eqb, None}
 use Rattle.environment.specs.declared.Register.{Register}
 use Rattle.syntax.specs.declared.ast.Node.{Node}
 use Rattle.syntax.specs.declared.ops.BinaryOp.{BinaryOp}
+use Rattle.runtime.specs.declared.opcode.Opcode.{Opcode}
 use Rattle.runtime.specs.declared.operand.Operand.{Operand}
 use Rattle.runtime.specs.Operands.{reg_of}
 use Rattle.operators.specs.Opcodes.{is_comparison}
-use Rattle.lowering.specs.declared.Dest.{Dest}
 use Rattle.lowering.specs.Tree.{Tree, node}
 use Rattle.lowering.specs.Walk.{Walk, ◌>>=◌, ◌>>◌, ret}
 use Rattle.lowering.specs.Steps.{free_temp, emit, load_constant}
@@ -70,9 +70,12 @@ key_operand (Node.FunctionCall callee first count) = Operand.Nil
 key_operand (Node.PropertyAccess object property) = Operand.Nil
 key_operand (Node.Map first count) = Operand.Nil
 
--- the opcode of a property store, by where key and value are: SetProperty 28, RK 29, KR 30, KK 31
-unfoldable pub set_opcode : ℕ → ℕ → ℕ
-set_opcode key value = cond (eqb key literal_word) (cond (eqb value literal_word) 31 30) (cond (eqb value literal_word) 29 28)
+-- the opcode of a property store, by where key and value are
+unfoldable pub set_opcode : ℕ → ℕ → Opcode
+set_opcode key value =
+    cond (eqb key literal_word)
+    (cond (eqb value literal_word) Opcode.SetPropertyKK Opcode.SetPropertyKR)
+    (cond (eqb value literal_word) Opcode.SetPropertyRK Opcode.SetProperty)
 
 -- whether a condition is a comparison, whose jump is fused
 unfoldable pub is_compared : Node → Bool
@@ -95,8 +98,8 @@ is_compared (Node.Map first count) = false
 -- "Two literals are both loaded."
 unfoldable pub lower_literals : Tree → BinaryOp → ℕ → ℕ → Register → Walk Operand
 lower_literals t operator left right d = do
-  src1 ← load_constant (literal (node t left)) Dest.Any
-  src2 ← load_constant (literal (node t right)) Dest.Any
+  src1 ← load_constant (literal (node t left)) None
+  src2 ← load_constant (literal (node t right)) None
   emit (binary_rr operator (reg_of d) (reg_of src1) (reg_of src2))
   free_temp src1
   free_temp src2

@@ -8,7 +8,7 @@ use Rattle.lowering.specs.Tree.{Tree, tree_of}
 use Rattle.lowering.specs.Checked.{Checked}
 use Rattle.lowering.specs.Walk.{Walk, made}
 use Rattle.steps.specs.declared.answer.AnswerAndState.{AnswerAndState}
-use Rattle.steps.specs.Answers.{any, settled, seen}
+use Rattle.steps.specs.Answers.{settled, seen}
 
 -- a node of the arena
 abbrev pub InArena : List ℕ → ℕ → Type 0
@@ -21,10 +21,6 @@ node_word_of nodes i k = node_word (words nodes) i k
 -- a tree that passed the questions, and a node of it
 abbrev pub Ready : List ℕ → List ℕ → List ℕ → ℕ → Type 0
 Ready nodes list names i = Checked (tree_of nodes list names) × ((length (words names) ≤ 256) × InArena nodes i)
-
--- the same, with a destination asked for
-abbrev pub ReadyTo : List ℕ → List ℕ → List ℕ → ℕ → ℕ → Type 0
-ReadyTo nodes list names i dest = Ready nodes list names i × (dest ≤ any)
 
 -- a map's entry that has a value: its key and its value are lower
 abbrev pub EntryBelow : ℕ → ℕ → ℕ → Type 0

@@ -1,9 +1,9 @@
 // Lowering a tree (kaori's codegen/lower_ast.rs): the questions, the walk from the root by the mode, and the arguments patched.
 #![tactic(auto)]
 
+mod arena;
 mod flat;
 mod lower_expression;
-mod read;
 
 ghost use Rattle.std.specs.Prelude.{◌≡◌, List, ◌++◌, ℕ, ◌<◌};
 ghost use Rattle.words.specs.Words.{words, tail, bytes_of};
@@ -13,94 +13,92 @@ ghost use Rattle.lowering.specs.Walk.{made, bind, ret};
 ghost use Rattle.lowering.specs.Steps.{free_temp, patch_arguments};
 ghost use Rattle.lowering.specs.Result.{lower_root, lower};
 ghost use Rattle.steps.specs.Answers.{place_at, settled, seen};
+ghost use Rattle.codegen.specs.Walks.{Kept, Walks};
 ghost use Rattle.codegen.specs.Ready.{InArena, Ready, Lowers};
 ghost use Rattle.result.specs.Numbers.{numbers};
 ghost use Rattle.codegen.specs.Roots.{conditional};
 
-use crate::flat::{REGISTER, peek};
-use crate::lower_expression::{lower_jump_if, lower_materializing};
+use crate::arena::{Arena, Buffers};
+use crate::flat::REGISTER;
 use diagnostics::Refusal;
 use environment::RegisterSet;
 use lowering::State;
-use patch::{Patched, patch_arguments};
-use questions::{CheckAnswer, check};
+use patch::patch_arguments;
+use questions::check;
 use result::{Result, refused_result, result_of};
 use runtime::function::emit_instruction;
-use runtime::opcode;
+use runtime::opcode::Opcode;
 use steps::answer::{ANY, AnswerAndState, answered, is_refusal, refused, reg_of, value_of};
-use words::{FULL, counted};
 
 // The arguments patched, and then the answer.
-fn patch_and_answer(code: &mut [u8], marks: &[u8], state: State, place: u32) -> AnswerAndState
-    ensures step { (t : Tree) (p : List ℕ) → settled (bind (patch_arguments (made (words code.old) p (words marks.now) state)) (λ x. ret place))
-        ≡ seen t place_at (made (words code.new) p (words marks.now) result.state) result.answer }
+fn patch_and_answer(code: &mut [u8], marks: &mut [u8], state: State, place: u32) -> AnswerAndState
+    ensures step { (t : Tree) (p : List ℕ) → settled (bind (patch_arguments (made (words code.old) p (words marks.old) state)) (λ x. ret place))
+        ≡ seen t place_at (made (words code.new) p (words marks.new) result.state) result.answer }
     ensures tail { tail code.new ≡ tail code.old }
 {
-    let registers = state.registers;
-    let done = patch_arguments(code, marks, state.marks, registers.frame_size);
-    match done {
-        Patched::Done => answered(state, place),
-        Patched::Refused { refusal, place } => refused(state, refusal, place),
+    match patch_arguments(code, marks, state.marks, state.registers.frame_size) {
+        Ok(()) => answered(state, place),
+        Err(r) => refused(state, r.refusal, r.place),
     }
 }
 
-// Mode 0: the root's value, returned.
-fn lower_value(
-    nodes: &[u8],
-    list: &[u8],
-    names: &[u8],
-    code: &mut [u8],
-    constants: &mut [u8],
-    marks: &mut [u8],
-    state: State,
-    root: u32,
-) -> AnswerAndState
-    requires { Ready nodes.now list.now names.now root }
-    ensures { Lowers (λ t. place_at) (λ t. lower_root free_temp t 0 root) nodes.now list.now names.now
-        code.old constants.old marks.old code.new constants.new marks.new state result }
-{
-    let f = peek(nodes, names, code, constants, state, root, REGISTER);
-    let r = lower_materializing(nodes, list, names, code, constants, marks, state, f, ANY);
-    if is_refusal(r.answer) {
-        return r;
+impl Arena<'_> {
+    // Mode 0: the root's value, returned.
+    pub(crate) fn lower_value(
+        &self,
+        buffers: &mut Buffers,
+        state: State,
+        root: u32,
+    ) -> AnswerAndState
+        requires { InArena self.now.nodes.now root }
+        ensures lowers { Walks (λ t. place_at) (λ t. lower_root free_temp t 0 root) self.now buffers.old buffers.new state result }
+        ensures kept { Kept buffers.old buffers.new }
+    {
+        let f = self.peek(buffers, state, root, REGISTER);
+        let r = self.lower_materializing(buffers, state, f, ANY);
+        if is_refusal(r.answer) {
+            return r;
+        }
+        let src = value_of(r.answer);
+        let mut s = r.state;
+        let emitted = emit_instruction(
+            buffers.code,
+            s.instructions,
+            Opcode::Return,
+            reg_of(src),
+            0,
+            0,
+        );
+        let Ok(_) = emitted.place else {
+            return refused(s, Refusal::Code, 0);
+        };
+        s.instructions = emitted.count;
+        patch_and_answer(buffers.code, buffers.marks, s, 0)
     }
-    let src = value_of(r.answer);
-    let mut s = r.state;
-    let n = emit_instruction(code, s.instructions, opcode::RETURN, reg_of(src), 0, 0);
-    if n == FULL {
-        return refused(s, Refusal::Code, 0);
+
+    // Modes 1 and 2: the root as a condition. The answer is the jump's place.
+    pub(crate) fn lower_condition(
+        &self,
+        buffers: &mut Buffers,
+        state: State,
+        root: u32,
+        sense: bool,
+    ) -> AnswerAndState
+        requires { InArena self.now.nodes.now root }
+        ensures lowers { Walks (λ t. place_at) (λ t. conditional t sense root) self.now buffers.old buffers.new state result }
+        ensures kept { Kept buffers.old buffers.new }
+    {
+        let r = self.lower_jump_if(buffers, state, root, sense);
+        if is_refusal(r.answer) {
+            return r;
+        }
+        let s = r.state;
+        patch_and_answer(buffers.code, buffers.marks, s, value_of(r.answer))
     }
-    s.instructions = counted(s.instructions, n);
-    patch_and_answer(code, marks, s, 0)
 }
 
-// Modes 1 and 2: the root as a condition. The answer is the jump's place.
-fn lower_condition(
-    nodes: &[u8],
-    list: &[u8],
-    names: &[u8],
-    code: &mut [u8],
-    constants: &mut [u8],
-    marks: &mut [u8],
-    state: State,
-    root: u32,
-    sense: bool,
-) -> AnswerAndState
-    requires { Ready nodes.now list.now names.now root }
-    ensures { Lowers (λ t. place_at) (λ t. conditional t sense root) nodes.now list.now names.now
-        code.old constants.old marks.old code.new constants.new marks.new state result }
-{
-    let r = lower_jump_if(
-        nodes, list, names, code, constants, marks, state, root, sense,
-    );
-    if is_refusal(r.answer) {
-        return r;
-    }
-    let s = r.state;
-    patch_and_answer(code, marks, s, value_of(r.answer))
-}
-
-fn lower_root(
+// The tree and the buffers are made of the slices, for the whole walk.
+fn lower_lent(
     nodes: &[u8],
     list: &[u8],
     names: &[u8],
@@ -115,14 +113,32 @@ fn lower_root(
     ensures { Lowers (λ t. place_at) (λ t. lower_root free_temp t mode root) nodes.now list.now names.now
         code.old constants.old marks.old code.new constants.new marks.new state result }
 {
-    match mode {
-        0 => lower_value(nodes, list, names, code, constants, marks, state, root),
-        1 => lower_condition(
-            nodes, list, names, code, constants, marks, state, root, false,
-        ),
-        _ => lower_condition(
-            nodes, list, names, code, constants, marks, state, root, true,
-        ),
+    let arena = Arena { nodes, list, names };
+    let mut buffers = Buffers {
+        code,
+        constants,
+        marks,
+    };
+    arena.lower_root(&mut buffers, state, mode, root)
+}
+
+impl Arena<'_> {
+    pub(crate) fn lower_root(
+        &self,
+        buffers: &mut Buffers,
+        state: State,
+        mode: u32,
+        root: u32,
+    ) -> AnswerAndState
+        requires { InArena self.now.nodes.now root }
+        ensures lowers { Walks (λ t. place_at) (λ t. lower_root free_temp t mode root) self.now buffers.old buffers.new state result }
+        ensures kept { Kept buffers.old buffers.new }
+    {
+        match mode {
+            0 => self.lower_value(buffers, state, root),
+            1 => self.lower_condition(buffers, state, root, false),
+            _ => self.lower_condition(buffers, state, root, true),
+        }
     }
 }
 
@@ -154,7 +170,7 @@ fn lower_checked(
     let whole_code = code.len() / 4 * 4;
     let whole_constants = constants.len() / 4 * 4;
     let whole_marks = marks.len() / 4 * 4;
-    let lowered = lower_root(
+    let lowered = lower_lent(
         nodes,
         list,
         names,
@@ -184,11 +200,8 @@ pub fn lower(
     ensures constants { constants.new ≡ bytes_of (lower nodes.now root mode list.now names.now (words code.old) (words constants.old) (words marks.old)).constants ++ tail constants.old }
     ensures marks { marks.new ≡ bytes_of (lower nodes.now root mode list.now names.now (words code.old) (words constants.old) (words marks.old)).marks ++ tail marks.old }
 {
-    let checked = check(nodes, list, names, mode, root);
-    match checked {
-        CheckAnswer::Refused { refusal, place } => refused_result(refusal, place),
-        CheckAnswer::Passed => lower_checked(
-            nodes, root, mode, list, names, code, constants, marks,
-        ),
+    match check(nodes, list, names, mode, root) {
+        Err(r) => refused_result(r),
+        Ok(()) => lower_checked(nodes, root, mode, list, names, code, constants, marks),
     }
 }

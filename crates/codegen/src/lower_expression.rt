@@ -1,929 +1,885 @@
 // The walk (kaori's codegen/lower_expression.rs, and `lower_materializing` and `lower_jump_if_false` of lower_ast.rs): a node is lowered by lowering the nodes
 // that it names, which are lower. One function an arm, in kaori's order. `dest` is the register that is to hold the value, or ANY. A child is tried first
 // (`peek`, `peek_into`), and walked if it is not flat. A state that is passed on is a copy of its own: the walk's own state then stays in machine registers.
-ghost use Rattle.std.specs.Prelude.{◌≡◌, ◌≢◌, ◌⊎◌, true, false, List, [], ◌∷◌, ℕ, ◌≤◌, length};
+ghost use Rattle.std.specs.Prelude.{◌≡◌, ◌≢◌, ◌⊎◌, true, false, List, [], ◌∷◌, ℕ, ◌≤◌, length, Option};
+ghost use Rattle.environment.specs.declared.Register.{Register};
 ghost use Rattle.words.specs.Words.{words};
 ghost use Rattle.syntax.specs.Ops.{binary_op, unary_op};
 ghost use Rattle.syntax.specs.Ast.{node_at};
 ghost use Rattle.runtime.specs.declared.instruction.Instruction.{Instruction};
 ghost use Rattle.runtime.specs.Instruction.{words_of};
+ghost use Rattle.runtime.specs.Opcode.{opcode_number};
 ghost use Rattle.lowering.specs.Operators.{unary};
-ghost use Rattle.lowering.specs.declared.Dest.{Dest};
 ghost use Rattle.lowering.specs.Tree.{Tree, tree_of};
 ghost use Rattle.lowering.specs.Walk.{Walk, made};
 ghost use Rattle.lowering.specs.Steps.{free_temp};
 ghost use Rattle.lowering.specs.Literals.{literal};
 ghost use Rattle.lowering.specs.Lower.{name_of, store_keyed, lower_arguments, lower_entry, test, jump_node, lower_expression, lower_jump_if_false};
 ghost use Rattle.steps.specs.Answers.{any, register_at, dest_of, operand_at, source_at, place_at, unit_at, settled, seen, is_inner, value_of, DestOrRefusal};
-ghost use Rattle.codegen.specs.Ready.{InArena, node_word_of, Ready, ReadyTo, EntryBelow, Lowers};
+ghost use Rattle.codegen.specs.Walks.{Kept, made_of, Untouched, Walks};
+ghost use Rattle.codegen.specs.Ready.{InArena, node_word_of, EntryBelow};
 ghost use Rattle.codegen.specs.Flat.{Falling};
 ghost use Rattle.codegen.specs.Kinds.{name_kind, binary_kind, unary_kind, not_kind, and_kind, or_kind, if_kind, block_kind, call_kind, property_kind, map_kind, only_operand, key_operand, lower_literals, is_compared};
 
-use crate::flat::{
-    OPERAND, REGISTER, binary_operation, flat_entry, fused_jump, key_operand, peek, peek_into,
-    peek_jump, set_opcode,
-};
-use crate::read::{find, literal, node_word};
+use crate::arena::{Arena, Buffers};
+use crate::flat::{OPERAND, REGISTER, set_opcode};
 use diagnostics::Refusal;
 use lowering::State;
 use operators::{binary_rr, is_comparison, jump_if, swaps, unary};
 use patch::mark_argument;
 use runtime::function::{emit_instruction, store_constant};
-use runtime::opcode;
+use runtime::opcode::Opcode;
 use runtime::operand::Operand;
 use steps::answer::{
     ANY, AnswerAndState, LITERAL, NONE, answered, is_inner, is_refusal, local, refused, reg_of,
     value_of,
 };
-use steps::sources::{field_of, first_of, pooled_by};
+use steps::sources::{field_of, first_of};
 use steps::step::{destination, load_constant, patch_to_next};
 use syntax::ast::ABSENT;
 use syntax::kind;
-use words::{FULL, counted, word};
+use syntax::ops::{BinaryOp, UnaryOp};
+use words::word;
 
-// A node as an expression, by its kind. A literal is LITERAL, and nothing is done. The arms that go deep are asked for first: the compiler inlines what it
-// takes for frequent.
-#[cycle(walk)]
-fn lower_expression(
-    nodes: &[u8],
-    list: &[u8],
-    names: &[u8],
-    code: &mut [u8],
-    constants: &mut [u8],
-    marks: &mut [u8],
-    state: State,
-    node: u32,
-    dest: u32,
-) -> AnswerAndState
-    requires { ReadyTo nodes.now list.now names.now node dest }
-    ensures { Lowers (λ t. operand_at (node_at t.nodes node)) (λ t. lower_expression free_temp t node (dest_of dest)) nodes.now list.now names.now
-        code.old constants.old marks.old code.new constants.new marks.new state result }
-{
-    let kind = node_word(nodes, node, 0);
-    let s = state;
-    if (kind::LOGICAL_AND <= kind) & (kind <= kind::IF) {
-        if kind == kind::IF {
-            return lower_if(nodes, list, names, code, constants, marks, s, node, dest);
+impl Arena<'_> {
+    // A node as an expression, by its kind. A literal is LITERAL, and nothing is done. The arms that go deep are asked for first: the compiler inlines what it
+    // takes for frequent.
+    #[cycle(walk)]
+    pub(crate) fn lower_expression(
+        &self,
+        buffers: &mut Buffers,
+        state: State,
+        node: u32,
+        dest: u32,
+    ) -> AnswerAndState
+        requires { InArena self.now.nodes.now node × (dest ≤ any) }
+        ensures lowers { Walks (λ t. operand_at (node_at t.nodes node)) (λ t. lower_expression free_temp t node (dest_of dest)) self.now buffers.old buffers.new state result }
+        ensures kept { Kept buffers.old buffers.new }
+    {
+        let kind = self.node_word(node, 0);
+        let s = state;
+        if (kind::LOGICAL_AND <= kind) & (kind <= kind::IF) {
+            if kind == kind::IF {
+                return self.lower_if(buffers, s, node, dest);
+            }
+            return self.logical(buffers, s, node, dest);
         }
-        return logical(nodes, list, names, code, constants, marks, s, node, dest);
-    }
-    if kind <= kind::LOGICAL_NOT {
-        if kind == kind::BINARY {
-            return lower_binary(nodes, list, names, code, constants, marks, s, node, dest);
+        if kind <= kind::LOGICAL_NOT {
+            if kind == kind::BINARY {
+                return self.lower_binary(buffers, s, node, dest);
+            }
+            if kind < kind::IDENTIFIER {
+                return answered(s, LITERAL);
+            }
+            if kind == kind::IDENTIFIER {
+                return self.lower_name(buffers, s, node, dest);
+            }
+            return self.lower_unary(buffers, s, node, dest);
         }
-        if kind < kind::IDENTIFIER {
-            return answered(s, LITERAL);
+        match kind {
+            kind::BLOCK => self.lower_block(buffers, s, node, dest),
+            kind::FUNCTION_CALL => self.lower_call(buffers, s, node, dest),
+            kind::PROPERTY_ACCESS => self.property(buffers, s, node, dest),
+            _ => self.lower_map(buffers, s, node, dest),
         }
-        if kind == kind::IDENTIFIER {
-            return lower_name(nodes, names, code, s, node, dest);
+    }
+
+    // A child that was peeked at: it is done, or the node that it comes to is walked, from the state before the peek.
+    #[cycle(walk)]
+    pub(crate) fn lower_materializing(
+        &self,
+        buffers: &mut Buffers,
+        state: State,
+        peeked: AnswerAndState,
+        dest: u32,
+    ) -> AnswerAndState
+        requires { is_inner peeked.answer ≡ true → (InArena self.now.nodes.now (value_of peeked.answer) × (dest ≤ any)) }
+        ensures walked { is_inner peeked.answer ≡ true → Walks (λ t. operand_at (node_at t.nodes (value_of peeked.answer))) (λ t. lower_expression free_temp t (value_of peeked.answer) (dest_of dest)) self.now buffers.old buffers.new state result }
+        ensures done { is_inner peeked.answer ≡ false → (result ≡ peeked) × Untouched buffers.old buffers.new }
+        ensures kept { Kept buffers.old buffers.new }
+    {
+        let answer = peeked.answer;
+        if is_inner(answer) {
+            let t = state;
+            let node = value_of(answer);
+            return self.lower_expression(buffers, t, node, dest);
         }
-        return lower_unary(nodes, list, names, code, constants, marks, s, node, dest);
+        peeked
     }
-    match kind {
-        kind::BLOCK => lower_block(nodes, list, names, code, constants, marks, s, node, dest),
-        kind::FUNCTION_CALL => lower_call(
-            nodes, list, names, code, constants, marks, s, node, dest,
-        ),
-        kind::PROPERTY_ACCESS => property(
-            nodes, list, names, code, constants, marks, s, node, dest,
-        ),
-        _ => lower_map(nodes, list, names, code, constants, marks, s, node, dest),
-    }
-}
 
-// A child that was peeked at: it is done, or the node that it comes to is walked, from the state before the peek.
-#[cycle(walk)]
-pub(crate) fn lower_materializing(
-    nodes: &[u8],
-    list: &[u8],
-    names: &[u8],
-    code: &mut [u8],
-    constants: &mut [u8],
-    marks: &mut [u8],
-    state: State,
-    peeked: AnswerAndState,
-    dest: u32,
-) -> AnswerAndState
-    requires { is_inner peeked.answer ≡ true → ReadyTo nodes.now list.now names.now (value_of peeked.answer) dest }
-    ensures walked { is_inner peeked.answer ≡ true → Lowers (λ t. operand_at (node_at t.nodes (value_of peeked.answer))) (λ t. lower_expression free_temp t (value_of peeked.answer) (dest_of dest)) nodes.now list.now names.now
-        code.old constants.old marks.old code.new constants.new marks.new state result }
-    ensures done { is_inner peeked.answer ≡ false → (result ≡ peeked) × ((words code.new ≡ words code.old) × ((words constants.new ≡ words constants.old) × (words marks.new ≡ words marks.old))) }
-{
-    let answer = peeked.answer;
-    if is_inner(answer) {
-        let t = state;
-        let node = value_of(answer);
-        return lower_expression(nodes, list, names, code, constants, marks, t, node, dest);
-    }
-    peeked
-}
-
-// Name: its own register, or a Move if another destination was given. Takes nothing.
-fn lower_name(
-    nodes: &[u8],
-    names: &[u8],
-    code: &mut [u8],
-    state: State,
-    node: u32,
-    dest: u32,
-) -> AnswerAndState
-    requires { (length (words names.now) ≤ 256) × (InArena nodes.now node × ((node_word_of nodes.now node 0 ≡ name_kind) × (dest ≤ any))) }
-    ensures { (list p m : List ℕ) → settled (lower_expression free_temp (tree_of nodes.now list names.now) node (dest_of dest) (made (words code.old) p m state))
-        ≡ seen (tree_of nodes.now list names.now) (operand_at (node_at (words nodes.now) node)) (made (words code.new) p m result.state) result.answer }
-{
-    let mut s = state;
-    let register = find(names, node_word(nodes, node, 1));
-    if register == NONE {
-        return refused(s, Refusal::Undeclared, node);
-    }
-    if (dest == ANY) | (dest == register) {
-        return answered(s, register);
-    }
-    let n = emit_instruction(
-        code,
-        s.instructions,
-        opcode::MOVE,
-        reg_of(dest),
-        reg_of(register),
-        0,
-    );
-    if n == FULL {
-        return refused(s, Refusal::Code, 0);
-    }
-    s.instructions = counted(s.instructions, n);
-    answered(s, dest)
-}
-
-// Binary: destination first, left, right, then constants pooled, one instruction. Gives back what the operands held.
-#[cycle(walk)]
-fn lower_binary(
-    nodes: &[u8],
-    list: &[u8],
-    names: &[u8],
-    code: &mut [u8],
-    constants: &mut [u8],
-    marks: &mut [u8],
-    state: State,
-    node: u32,
-    dest: u32,
-) -> AnswerAndState
-    requires { (ReadyTo nodes.now list.now names.now node dest) × (node_word_of nodes.now node 0 ≡ binary_kind) }
-    ensures { Lowers (λ t. operand_at (node_at t.nodes node)) (λ t. lower_expression free_temp t node (dest_of dest)) nodes.now list.now names.now
-        code.old constants.old marks.old code.new constants.new marks.new state result }
-{
-    let left = node_word(nodes, node, 2);
-    let right = node_word(nodes, node, 3);
-    let t = destination(state, dest);
-    if is_refusal(t.answer) {
-        return t;
-    }
-    let d = value_of(t.answer);
-    let s1 = t.state;
-    let f1 = peek(nodes, names, code, constants, s1, left, OPERAND);
-    let r1 = lower_materializing(nodes, list, names, code, constants, marks, s1, f1, ANY);
-    if is_refusal(r1.answer) {
-        return r1;
-    }
-    let src1 = value_of(r1.answer);
-    let s2 = r1.state;
-    let f2 = peek(nodes, names, code, constants, s2, right, OPERAND);
-    let r2 = lower_materializing(nodes, list, names, code, constants, marks, s2, f2, ANY);
-    if is_refusal(r2.answer) {
-        return r2;
-    }
-    let src2 = value_of(r2.answer);
-    let s3 = r2.state;
-    if (src1 == LITERAL) & (src2 == LITERAL) {
-        return lower_literals(nodes, code, constants, s3, node, d);
-    }
-    let e = binary_operation(nodes, code, constants, s3, node, d, src1, src2);
-    if is_refusal(e.answer) {
-        return e;
-    }
-    let mut s = e.state;
-    let held = s.registers;
-    let held1 = held.give_back(src1);
-    let held2 = held1.give_back(src2);
-    s.registers = held2;
-    answered(s, d)
-}
-
-// Binary, "Two literals are both loaded": each into a register that is taken, both given back.
-fn lower_literals(
-    nodes: &[u8],
-    code: &mut [u8],
-    constants: &mut [u8],
-    state: State,
-    node: u32,
-    d: u32,
-) -> AnswerAndState
-    requires { Falling nodes.now × (InArena nodes.now node × (node_word_of nodes.now node 0 ≡ binary_kind)) }
-    ensures by_index { (list names m : List ℕ) → settled (lower_literals (tree_of nodes.now list names) (binary_op (node_word_of nodes.now node 1)) (node_word_of nodes.now node 2) (node_word_of nodes.now node 3) (register_at d) (made (words code.old) (words constants.old) m state))
-        ≡ seen (tree_of nodes.now list names) (λ w. Operand.Register (register_at w)) (made (words code.new) (words constants.new) m result.state) result.answer }
-    ensures word { DestOrRefusal d result.answer }
-{
-    let operator = node_word(nodes, node, 1);
-    let left = node_word(nodes, node, 2);
-    let right = node_word(nodes, node, 3);
-    let r1 = load_constant(code, constants, state, literal(nodes, left), ANY);
-    if is_refusal(r1.answer) {
-        return r1;
-    }
-    let s1 = r1.state;
-    let src1 = value_of(r1.answer);
-    let r2 = load_constant(code, constants, s1, literal(nodes, right), ANY);
-    if is_refusal(r2.answer) {
-        return r2;
-    }
-    let mut s = r2.state;
-    let src2 = value_of(r2.answer);
-    let swap = swaps(operator);
-    let a = first_of(swap, reg_of(src1), reg_of(src2));
-    let b = first_of(swap, reg_of(src2), reg_of(src1));
-    let n = emit_instruction(code, s.instructions, binary_rr(operator), reg_of(d), a, b);
-    if n == FULL {
-        return refused(s, Refusal::Code, 0);
-    }
-    s.instructions = counted(s.instructions, n);
-    let held = s.registers;
-    let held1 = held.give_back(src1);
-    let held2 = held1.give_back(src2);
-    s.registers = held2;
-    answered(s, d)
-}
-
-// The operand of a unary operator or of not, and its opcode.
-#[tactic(auto, unfolding(crate::specs::Kinds::only_operand))]
-fn only_operand(nodes: &[u8], node: u32) -> u32
-    requires { InArena nodes.now node }
-    ensures { result ≡ only_operand nodes.now node }
-{
-    if node_word(nodes, node, 0) == kind::UNARY {
-        return node_word(nodes, node, 2);
-    }
-    node_word(nodes, node, 1)
-}
-
-#[tactic(auto, unfolding(runtime::specs::Instruction::words_of))]
-fn only_opcode(nodes: &[u8], node: u32) -> u32
-    requires { InArena nodes.now node }
-    ensures unary { node_word_of nodes.now node 0 ≡ unary_kind → (d a : ℕ) → words_of (unary (unary_op (node_word_of nodes.now node 1)) d a) ≡ result ∷ d ∷ a ∷ 0 ∷ [] }
-    ensures not { node_word_of nodes.now node 0 ≢ unary_kind → (d a : ℕ) → words_of (Instruction.Not d a) ≡ result ∷ d ∷ a ∷ 0 ∷ [] }
-{
-    if node_word(nodes, node, 0) == kind::UNARY {
-        return unary(node_word(nodes, node, 1));
-    }
-    opcode::NOT
-}
-
-// Unary, not: destination, operand, one instruction. Gives back what the operand held.
-#[cycle(walk)]
-fn lower_unary(
-    nodes: &[u8],
-    list: &[u8],
-    names: &[u8],
-    code: &mut [u8],
-    constants: &mut [u8],
-    marks: &mut [u8],
-    state: State,
-    node: u32,
-    dest: u32,
-) -> AnswerAndState
-    requires { (ReadyTo nodes.now list.now names.now node dest) × ((node_word_of nodes.now node 0 ≡ unary_kind) ⊎ (node_word_of nodes.now node 0 ≡ not_kind)) }
-    ensures { Lowers (λ t. operand_at (node_at t.nodes node)) (λ t. lower_expression free_temp t node (dest_of dest)) nodes.now list.now names.now
-        code.old constants.old marks.old code.new constants.new marks.new state result }
-{
-    let operand = only_operand(nodes, node);
-    let t = destination(state, dest);
-    if is_refusal(t.answer) {
-        return t;
-    }
-    let d = value_of(t.answer);
-    let s1 = t.state;
-    let f1 = peek(nodes, names, code, constants, s1, operand, REGISTER);
-    let r1 = lower_materializing(nodes, list, names, code, constants, marks, s1, f1, ANY);
-    if is_refusal(r1.answer) {
-        return r1;
-    }
-    let src = value_of(r1.answer);
-    let mut s = r1.state;
-    let opcode = only_opcode(nodes, node);
-    let n = emit_instruction(code, s.instructions, opcode, reg_of(d), reg_of(src), 0);
-    if n == FULL {
-        return refused(s, Refusal::Code, 0);
-    }
-    s.instructions = counted(s.instructions, n);
-    let held = s.registers;
-    let held1 = held.give_back(src);
-    s.registers = held1;
-    answered(s, d)
-}
-
-// The jump over the right side of and, or.
-#[tactic(auto, unfolding(runtime::specs::Instruction::words_of))]
-fn logical_jump(nodes: &[u8], node: u32) -> u32
-    requires { InArena nodes.now node }
-    ensures and { node_word_of nodes.now node 0 ≡ and_kind → (a : ℕ) → words_of (Instruction.JumpIfFalse a 0) ≡ result ∷ a ∷ 0 ∷ 0 ∷ [] }
-    ensures or { node_word_of nodes.now node 0 ≢ and_kind → (a : ℕ) → words_of (Instruction.JumpIfTrue a 0) ≡ result ∷ a ∷ 0 ∷ 0 ∷ [] }
-{
-    if node_word(nodes, node, 0) == kind::LOGICAL_AND {
-        return opcode::JUMP_IF_FALSE;
-    }
-    opcode::JUMP_IF_TRUE
-}
-
-// And, or: left into the destination, jump, right into the same. Gives nothing back.
-#[cycle(walk)]
-fn logical(
-    nodes: &[u8],
-    list: &[u8],
-    names: &[u8],
-    code: &mut [u8],
-    constants: &mut [u8],
-    marks: &mut [u8],
-    state: State,
-    node: u32,
-    dest: u32,
-) -> AnswerAndState
-    requires { (ReadyTo nodes.now list.now names.now node dest) × ((node_word_of nodes.now node 0 ≡ and_kind) ⊎ (node_word_of nodes.now node 0 ≡ or_kind)) }
-    ensures { Lowers (λ t. operand_at (node_at t.nodes node)) (λ t. lower_expression free_temp t node (dest_of dest)) nodes.now list.now names.now
-        code.old constants.old marks.old code.new constants.new marks.new state result }
-{
-    let left = node_word(nodes, node, 1);
-    let right = node_word(nodes, node, 2);
-    let t = destination(state, dest);
-    if is_refusal(t.answer) {
-        return t;
-    }
-    let d = value_of(t.answer);
-    let s1 = t.state;
-    let f1 = peek_into(nodes, names, code, constants, s1, left, d);
-    let r1 = lower_materializing(nodes, list, names, code, constants, marks, s1, f1, d);
-    if is_refusal(r1.answer) {
-        return r1;
-    }
-    let mut s = r1.state;
-    let jump = logical_jump(nodes, node);
-    let place = emit_instruction(code, s.instructions, jump, reg_of(d), 0, 0);
-    if place == FULL {
-        return refused(s, Refusal::Code, 0);
-    }
-    s.instructions = counted(s.instructions, place);
-    let f2 = peek_into(nodes, names, code, constants, s, right, d);
-    let r2 = lower_materializing(nodes, list, names, code, constants, marks, s, f2, d);
-    if is_refusal(r2.answer) {
-        return r2;
-    }
-    let s2 = r2.state;
-    patch_to_next(code, place, s2.instructions);
-    answered(s2, d)
-}
-
-// If: condition, destination, then, jump, else. What the condition holds stays held.
-#[cycle(walk)]
-fn lower_if(
-    nodes: &[u8],
-    list: &[u8],
-    names: &[u8],
-    code: &mut [u8],
-    constants: &mut [u8],
-    marks: &mut [u8],
-    state: State,
-    node: u32,
-    dest: u32,
-) -> AnswerAndState
-    requires { (ReadyTo nodes.now list.now names.now node dest) × (node_word_of nodes.now node 0 ≡ if_kind) }
-    ensures { Lowers (λ t. operand_at (node_at t.nodes node)) (λ t. lower_expression free_temp t node (dest_of dest)) nodes.now list.now names.now
-        code.old constants.old marks.old code.new constants.new marks.new state result }
-{
-    let condition = node_word(nodes, node, 1);
-    let then_branch = node_word(nodes, node, 2);
-    let else_branch = node_word(nodes, node, 3);
-    let r = lower_jump_if_false(nodes, list, names, code, constants, marks, state, condition);
-    if is_refusal(r.answer) {
-        return r;
-    }
-    let jump_if_false = value_of(r.answer);
-    let s0 = r.state;
-    let t = destination(s0, dest);
-    if is_refusal(t.answer) {
-        return t;
-    }
-    let d = value_of(t.answer);
-    let s1 = t.state;
-    let f1 = peek_into(nodes, names, code, constants, s1, then_branch, d);
-    let r1 = lower_materializing(nodes, list, names, code, constants, marks, s1, f1, d);
-    if is_refusal(r1.answer) {
-        return r1;
-    }
-    let mut s = r1.state;
-    let jump_end = emit_instruction(code, s.instructions, opcode::JUMP, 0, 0, 0);
-    if jump_end == FULL {
-        return refused(s, Refusal::Code, 0);
-    }
-    s.instructions = counted(s.instructions, jump_end);
-    patch_to_next(code, jump_if_false, s.instructions);
-    if else_branch == ABSENT {
-        return refused(s, Refusal::Else, node);
-    }
-    let f2 = peek_into(nodes, names, code, constants, s, else_branch, d);
-    let r2 = lower_materializing(nodes, list, names, code, constants, marks, s, f2, d);
-    if is_refusal(r2.answer) {
-        return r2;
-    }
-    let s2 = r2.state;
-    patch_to_next(code, jump_end, s2.instructions);
-    answered(s2, d)
-}
-
-// Block: destination, then the tail or nil.
-#[cycle(walk)]
-fn lower_block(
-    nodes: &[u8],
-    list: &[u8],
-    names: &[u8],
-    code: &mut [u8],
-    constants: &mut [u8],
-    marks: &mut [u8],
-    state: State,
-    node: u32,
-    dest: u32,
-) -> AnswerAndState
-    requires { (ReadyTo nodes.now list.now names.now node dest) × (node_word_of nodes.now node 0 ≡ block_kind) }
-    ensures { Lowers (λ t. operand_at (node_at t.nodes node)) (λ t. lower_expression free_temp t node (dest_of dest)) nodes.now list.now names.now
-        code.old constants.old marks.old code.new constants.new marks.new state result }
-{
-    let tail = node_word(nodes, node, 1);
-    let t = destination(state, dest);
-    if is_refusal(t.answer) {
-        return t;
-    }
-    let d = value_of(t.answer);
-    let s = t.state;
-    if tail == ABSENT {
-        let u = s;
-        let r = load_constant(code, constants, u, Operand::Nil, d);
-        if is_refusal(r.answer) {
-            return r;
+    // Name: its own register, or a Move if another destination was given. Takes nothing.
+    pub(crate) fn lower_name(
+        &self,
+        buffers: &mut Buffers,
+        state: State,
+        node: u32,
+        dest: u32,
+    ) -> AnswerAndState
+        requires { InArena self.now.nodes.now node × ((node_word_of self.now.nodes.now node 0 ≡ name_kind) × (dest ≤ any)) }
+        ensures lowers { (list : List ℕ) → settled (lower_expression free_temp (tree_of self.now.nodes.now list self.now.names.now) node (dest_of dest) (made_of buffers.old state))
+            ≡ seen (tree_of self.now.nodes.now list self.now.names.now) (operand_at (node_at (words self.now.nodes.now) node)) (made_of buffers.new result.state) result.answer }
+        ensures kept { Kept buffers.old buffers.new }
+    {
+        let mut s = state;
+        let register = self.find(self.node_word(node, 1));
+        if register == NONE {
+            return refused(s, Refusal::Undeclared, node);
         }
-        let s1 = r.state;
-        return answered(s1, d);
+        if (dest == ANY) | (dest == register) {
+            return answered(s, register);
+        }
+        let emitted = emit_instruction(
+            buffers.code,
+            s.instructions,
+            Opcode::Move,
+            reg_of(dest),
+            reg_of(register),
+            0,
+        );
+        let Ok(_) = emitted.place else {
+            return refused(s, Refusal::Code, 0);
+        };
+        s.instructions = emitted.count;
+        answered(s, dest)
     }
-    let f1 = peek_into(nodes, names, code, constants, s, tail, d);
-    let r1 = lower_materializing(nodes, list, names, code, constants, marks, s, f1, d);
-    if is_refusal(r1.answer) {
-        return r1;
-    }
-    let s2 = r1.state;
-    answered(s2, d)
-}
 
-// Call: the arguments; then destination, callee, Call. Gives back what the callee held.
-#[cycle(walk)]
-fn lower_call(
-    nodes: &[u8],
-    list: &[u8],
-    names: &[u8],
-    code: &mut [u8],
-    constants: &mut [u8],
-    marks: &mut [u8],
-    state: State,
-    node: u32,
-    dest: u32,
-) -> AnswerAndState
-    requires { (ReadyTo nodes.now list.now names.now node dest) × (node_word_of nodes.now node 0 ≡ call_kind) }
-    ensures { Lowers (λ t. operand_at (node_at t.nodes node)) (λ t. lower_expression free_temp t node (dest_of dest)) nodes.now list.now names.now
-        code.old constants.old marks.old code.new constants.new marks.new state result }
-{
-    let callee = node_word(nodes, node, 1);
-    let count = node_word(nodes, node, 3);
-    let a = arguments(nodes, list, names, code, constants, marks, state, node);
-    if is_refusal(a.answer) {
-        return a;
+    // Binary: destination first, left, right, then constants pooled, one instruction. Gives back what the operands held.
+    #[cycle(walk)]
+    pub(crate) fn lower_binary(
+        &self,
+        buffers: &mut Buffers,
+        state: State,
+        node: u32,
+        dest: u32,
+    ) -> AnswerAndState
+        requires { (InArena self.now.nodes.now node × (dest ≤ any)) × (node_word_of self.now.nodes.now node 0 ≡ binary_kind) }
+        ensures lowers { Walks (λ t. operand_at (node_at t.nodes node)) (λ t. lower_expression free_temp t node (dest_of dest)) self.now buffers.old buffers.new state result }
+        ensures kept { Kept buffers.old buffers.new }
+    {
+        let left = self.node_word(node, 2);
+        let right = self.node_word(node, 3);
+        let t = destination(state, dest);
+        if is_refusal(t.answer) {
+            return t;
+        }
+        let d = value_of(t.answer);
+        let s1 = t.state;
+        let f1 = self.peek(buffers, s1, left, OPERAND);
+        let r1 = self.lower_materializing(buffers, s1, f1, ANY);
+        if is_refusal(r1.answer) {
+            return r1;
+        }
+        let src1 = value_of(r1.answer);
+        let s2 = r1.state;
+        let f2 = self.peek(buffers, s2, right, OPERAND);
+        let r2 = self.lower_materializing(buffers, s2, f2, ANY);
+        if is_refusal(r2.answer) {
+            return r2;
+        }
+        let src2 = value_of(r2.answer);
+        let s3 = r2.state;
+        if (src1 == LITERAL) & (src2 == LITERAL) {
+            return self.lower_literals(buffers, s3, node, d);
+        }
+        let e = self.binary_operation(buffers, s3, node, d, src1, src2);
+        if is_refusal(e.answer) {
+            return e;
+        }
+        let mut s = e.state;
+        let held = s.registers;
+        let held1 = held.give_back(src1);
+        let held2 = held1.give_back(src2);
+        s.registers = held2;
+        answered(s, d)
     }
-    let s0 = a.state;
-    let t = destination(s0, dest);
-    if is_refusal(t.answer) {
-        return t;
-    }
-    let d = value_of(t.answer);
-    let s1 = t.state;
-    let f1 = peek(nodes, names, code, constants, s1, callee, REGISTER);
-    let r1 = lower_materializing(nodes, list, names, code, constants, marks, s1, f1, ANY);
-    if is_refusal(r1.answer) {
-        return r1;
-    }
-    let src = value_of(r1.answer);
-    let mut s = r1.state;
-    let n = emit_instruction(
-        code,
-        s.instructions,
-        opcode::CALL,
-        reg_of(d),
-        reg_of(src),
-        count,
-    );
-    if n == FULL {
-        return refused(s, Refusal::Code, 0);
-    }
-    s.instructions = counted(s.instructions, n);
-    let held = s.registers;
-    let held1 = held.give_back(src);
-    s.registers = held1;
-    answered(s, d)
-}
 
-// The arguments of a call: argument i into local i, and the last instruction marked.
-#[cycle(walk)]
-fn arguments(
-    nodes: &[u8],
-    list: &[u8],
-    names: &[u8],
-    code: &mut [u8],
-    constants: &mut [u8],
-    marks: &mut [u8],
-    state: State,
-    node: u32,
-) -> AnswerAndState
-    requires { (Ready nodes.now list.now names.now node) × (node_word_of nodes.now node 0 ≡ call_kind) }
-    ensures { Lowers (λ t. unit_at) (λ t. lower_arguments t (lower_expression free_temp t) node (node_word_of nodes.now node 2) (node_word_of nodes.now node 3) 0) nodes.now list.now names.now
-        code.old constants.old marks.old code.new constants.new marks.new state result }
-{
-    let first = node_word(nodes, node, 2) as usize;
-    let count = node_word(nodes, node, 3);
-    let mut s = state;
-    let mut i: u32 = 0;
-    while i < count {
-        let argument = word(list, first + (i as usize));
-        let d = local(i);
-        let f1 = peek_into(nodes, names, code, constants, s, argument, d);
-        let r1 = lower_materializing(nodes, list, names, code, constants, marks, s, f1, d);
+    // Binary, "Two literals are both loaded": each into a register that is taken, both given back.
+    pub(crate) fn lower_literals(
+        &self,
+        buffers: &mut Buffers,
+        state: State,
+        node: u32,
+        d: u32,
+    ) -> AnswerAndState
+        requires { InArena self.now.nodes.now node × (node_word_of self.now.nodes.now node 0 ≡ binary_kind) }
+        ensures by_index { (list names : List ℕ) → settled (lower_literals (tree_of self.now.nodes.now list names) (binary_op (node_word_of self.now.nodes.now node 1)) (node_word_of self.now.nodes.now node 2) (node_word_of self.now.nodes.now node 3) (register_at d) (made_of buffers.old state))
+            ≡ seen (tree_of self.now.nodes.now list names) (λ w. Operand.Register (register_at w)) (made_of buffers.new result.state) result.answer }
+        ensures word { DestOrRefusal d result.answer }
+        ensures kept { Kept buffers.old buffers.new }
+    {
+        let operator = BinaryOp::of(self.node_word(node, 1));
+        let left = self.node_word(node, 2);
+        let right = self.node_word(node, 3);
+        let r1 = load_constant(
+            buffers.code,
+            buffers.constants,
+            state,
+            self.literal(left),
+            ANY,
+        );
         if is_refusal(r1.answer) {
             return r1;
         }
         let s1 = r1.state;
-        s = s1;
-        if s.instructions == 0 {
-            return refused(s, Refusal::Unmarked, node);
-        }
-        let m = mark_argument(marks, s.marks, s.instructions);
-        if m == FULL {
-            return refused(s, Refusal::Marks, 0);
-        }
-        s.marks = counted(s.marks, m);
-        i += 1;
-    }
-    answered(s, 0)
-}
-
-// Property: destination, object, key pooled. Gives back what the object held.
-#[cycle(walk)]
-fn property(
-    nodes: &[u8],
-    list: &[u8],
-    names: &[u8],
-    code: &mut [u8],
-    constants: &mut [u8],
-    marks: &mut [u8],
-    state: State,
-    node: u32,
-    dest: u32,
-) -> AnswerAndState
-    requires { (ReadyTo nodes.now list.now names.now node dest) × (node_word_of nodes.now node 0 ≡ property_kind) }
-    ensures { Lowers (λ t. operand_at (node_at t.nodes node)) (λ t. lower_expression free_temp t node (dest_of dest)) nodes.now list.now names.now
-        code.old constants.old marks.old code.new constants.new marks.new state result }
-{
-    let object = node_word(nodes, node, 1);
-    let property = node_word(nodes, node, 2);
-    let t = destination(state, dest);
-    if is_refusal(t.answer) {
-        return t;
-    }
-    let d = value_of(t.answer);
-    let s1 = t.state;
-    let f1 = peek(nodes, names, code, constants, s1, object, REGISTER);
-    let r1 = lower_materializing(nodes, list, names, code, constants, marks, s1, f1, ANY);
-    if is_refusal(r1.answer) {
-        return r1;
-    }
-    let src = value_of(r1.answer);
-    let mut s = r1.state;
-    let k = store_constant(constants, s.constants, Operand::String(property));
-    if k == FULL {
-        return refused(s, Refusal::Constants, 0);
-    }
-    s.constants = counted(s.constants, k);
-    let n = emit_instruction(
-        code,
-        s.instructions,
-        opcode::GET_PROPERTY_K,
-        reg_of(d),
-        reg_of(src),
-        k,
-    );
-    if n == FULL {
-        return refused(s, Refusal::Code, 0);
-    }
-    s.instructions = counted(s.instructions, n);
-    let held = s.registers;
-    let held1 = held.give_back(src);
-    s.registers = held1;
-    answered(s, d)
-}
-
-// Map: CreateMap, then entry by entry. What the entries hold stays held.
-#[cycle(walk)]
-fn lower_map(
-    nodes: &[u8],
-    list: &[u8],
-    names: &[u8],
-    code: &mut [u8],
-    constants: &mut [u8],
-    marks: &mut [u8],
-    state: State,
-    node: u32,
-    dest: u32,
-) -> AnswerAndState
-    requires { (ReadyTo nodes.now list.now names.now node dest) × (node_word_of nodes.now node 0 ≡ map_kind) }
-    ensures { Lowers (λ t. operand_at (node_at t.nodes node)) (λ t. lower_expression free_temp t node (dest_of dest)) nodes.now list.now names.now
-        code.old constants.old marks.old code.new constants.new marks.new state result }
-{
-    let first = node_word(nodes, node, 1) as usize;
-    let count = node_word(nodes, node, 2);
-    let t = destination(state, dest);
-    if is_refusal(t.answer) {
-        return t;
-    }
-    let d = value_of(t.answer);
-    let mut s = t.state;
-    let n = emit_instruction(code, s.instructions, opcode::CREATE_MAP, reg_of(d), 0, 0);
-    if n == FULL {
-        return refused(s, Refusal::Code, 0);
-    }
-    s.instructions = counted(s.instructions, n);
-    let mut i: u32 = 0;
-    while i < count {
-        let at = first + 2 * (i as usize);
-        let key = word(list, at);
-        let value = word(list, at + 1);
-        let f = flat_entry(
-            nodes,
-            names,
-            code,
-            constants,
-            s.instructions,
-            s.constants,
-            d,
-            key,
-            value,
+        let src1 = value_of(r1.answer);
+        let r2 = load_constant(
+            buffers.code,
+            buffers.constants,
+            s1,
+            self.literal(right),
+            ANY,
         );
-        let answer = f.answer;
-        if is_inner(answer) {
+        if is_refusal(r2.answer) {
+            return r2;
+        }
+        let mut s = r2.state;
+        let src2 = value_of(r2.answer);
+        let swap = swaps(operator);
+        let a = first_of(swap, reg_of(src1), reg_of(src2));
+        let b = first_of(swap, reg_of(src2), reg_of(src1));
+        let emitted = emit_instruction(
+            buffers.code,
+            s.instructions,
+            binary_rr(operator),
+            reg_of(d),
+            a,
+            b,
+        );
+        let Ok(_) = emitted.place else {
+            return refused(s, Refusal::Code, 0);
+        };
+        s.instructions = emitted.count;
+        let held = s.registers;
+        let held1 = held.give_back(src1);
+        let held2 = held1.give_back(src2);
+        s.registers = held2;
+        answered(s, d)
+    }
+
+    // The operand of a unary operator or of not, and its opcode.
+    #[tactic(auto, unfolding(crate::specs::Kinds::only_operand))]
+    pub(crate) fn only_operand(&self, node: u32) -> u32
+        requires { InArena self.now.nodes.now node }
+        ensures { result ≡ only_operand self.now.nodes.now node }
+    {
+        if self.node_word(node, 0) == kind::UNARY {
+            return self.node_word(node, 2);
+        }
+        self.node_word(node, 1)
+    }
+
+    #[tactic(auto, unfolding(runtime::specs::Instruction::words_of))]
+    pub(crate) fn only_opcode(&self, node: u32) -> Opcode
+        requires { InArena self.now.nodes.now node }
+        ensures unary { node_word_of self.now.nodes.now node 0 ≡ unary_kind → (d a : ℕ) → words_of (unary (unary_op (node_word_of self.now.nodes.now node 1)) d a) ≡ opcode_number result ∷ d ∷ a ∷ 0 ∷ [] }
+        ensures not { node_word_of self.now.nodes.now node 0 ≢ unary_kind → (d a : ℕ) → words_of (Instruction.Not d a) ≡ opcode_number result ∷ d ∷ a ∷ 0 ∷ [] }
+    {
+        if self.node_word(node, 0) == kind::UNARY {
+            return unary(UnaryOp::of(self.node_word(node, 1)));
+        }
+        Opcode::Not
+    }
+
+    // Unary, not: destination, operand, one instruction. Gives back what the operand held.
+    #[cycle(walk)]
+    pub(crate) fn lower_unary(
+        &self,
+        buffers: &mut Buffers,
+        state: State,
+        node: u32,
+        dest: u32,
+    ) -> AnswerAndState
+        requires { (InArena self.now.nodes.now node × (dest ≤ any)) × ((node_word_of self.now.nodes.now node 0 ≡ unary_kind) ⊎ (node_word_of self.now.nodes.now node 0 ≡ not_kind)) }
+        ensures lowers { Walks (λ t. operand_at (node_at t.nodes node)) (λ t. lower_expression free_temp t node (dest_of dest)) self.now buffers.old buffers.new state result }
+        ensures kept { Kept buffers.old buffers.new }
+    {
+        let operand = self.only_operand(node);
+        let t = destination(state, dest);
+        if is_refusal(t.answer) {
+            return t;
+        }
+        let d = value_of(t.answer);
+        let s1 = t.state;
+        let f1 = self.peek(buffers, s1, operand, REGISTER);
+        let r1 = self.lower_materializing(buffers, s1, f1, ANY);
+        if is_refusal(r1.answer) {
+            return r1;
+        }
+        let src = value_of(r1.answer);
+        let mut s = r1.state;
+        let opcode = self.only_opcode(node);
+        let emitted = emit_instruction(
+            buffers.code,
+            s.instructions,
+            opcode,
+            reg_of(d),
+            reg_of(src),
+            0,
+        );
+        let Ok(_) = emitted.place else {
+            return refused(s, Refusal::Code, 0);
+        };
+        s.instructions = emitted.count;
+        let held = s.registers;
+        let held1 = held.give_back(src);
+        s.registers = held1;
+        answered(s, d)
+    }
+
+    // The jump over the right side of and, or.
+    #[tactic(auto, unfolding(runtime::specs::Instruction::words_of))]
+    pub(crate) fn logical_jump(&self, node: u32) -> Opcode
+        requires { InArena self.now.nodes.now node }
+        ensures and { node_word_of self.now.nodes.now node 0 ≡ and_kind → (a : ℕ) → words_of (Instruction.JumpIfFalse a 0) ≡ opcode_number result ∷ a ∷ 0 ∷ 0 ∷ [] }
+        ensures or { node_word_of self.now.nodes.now node 0 ≢ and_kind → (a : ℕ) → words_of (Instruction.JumpIfTrue a 0) ≡ opcode_number result ∷ a ∷ 0 ∷ 0 ∷ [] }
+    {
+        if self.node_word(node, 0) == kind::LOGICAL_AND {
+            return Opcode::JumpIfFalse;
+        }
+        Opcode::JumpIfTrue
+    }
+
+    // And, or: left into the destination, jump, right into the same. Gives nothing back.
+    #[cycle(walk)]
+    pub(crate) fn logical(
+        &self,
+        buffers: &mut Buffers,
+        state: State,
+        node: u32,
+        dest: u32,
+    ) -> AnswerAndState
+        requires { (InArena self.now.nodes.now node × (dest ≤ any)) × ((node_word_of self.now.nodes.now node 0 ≡ and_kind) ⊎ (node_word_of self.now.nodes.now node 0 ≡ or_kind)) }
+        ensures lowers { Walks (λ t. operand_at (node_at t.nodes node)) (λ t. lower_expression free_temp t node (dest_of dest)) self.now buffers.old buffers.new state result }
+        ensures kept { Kept buffers.old buffers.new }
+    {
+        let left = self.node_word(node, 1);
+        let right = self.node_word(node, 2);
+        let t = destination(state, dest);
+        if is_refusal(t.answer) {
+            return t;
+        }
+        let d = value_of(t.answer);
+        let s1 = t.state;
+        let f1 = self.peek_into(buffers, s1, left, d);
+        let r1 = self.lower_materializing(buffers, s1, f1, d);
+        if is_refusal(r1.answer) {
+            return r1;
+        }
+        let mut s = r1.state;
+        let jump = self.logical_jump(node);
+        let emitted = emit_instruction(buffers.code, s.instructions, jump, reg_of(d), 0, 0);
+        let Ok(place) = emitted.place else {
+            return refused(s, Refusal::Code, 0);
+        };
+        s.instructions = emitted.count;
+        let f2 = self.peek_into(buffers, s, right, d);
+        let r2 = self.lower_materializing(buffers, s, f2, d);
+        if is_refusal(r2.answer) {
+            return r2;
+        }
+        let s2 = r2.state;
+        patch_to_next(buffers.code, place, s2.instructions);
+        answered(s2, d)
+    }
+
+    // If: condition, destination, then, jump, else. What the condition holds stays held.
+    #[cycle(walk)]
+    pub(crate) fn lower_if(
+        &self,
+        buffers: &mut Buffers,
+        state: State,
+        node: u32,
+        dest: u32,
+    ) -> AnswerAndState
+        requires { (InArena self.now.nodes.now node × (dest ≤ any)) × (node_word_of self.now.nodes.now node 0 ≡ if_kind) }
+        ensures lowers { Walks (λ t. operand_at (node_at t.nodes node)) (λ t. lower_expression free_temp t node (dest_of dest)) self.now buffers.old buffers.new state result }
+        ensures kept { Kept buffers.old buffers.new }
+    {
+        let condition = self.node_word(node, 1);
+        let then_branch = self.node_word(node, 2);
+        let else_branch = self.node_word(node, 3);
+        let r = self.lower_jump_if_false(buffers, state, condition);
+        if is_refusal(r.answer) {
+            return r;
+        }
+        let jump_if_false = value_of(r.answer);
+        let s0 = r.state;
+        let t = destination(s0, dest);
+        if is_refusal(t.answer) {
+            return t;
+        }
+        let d = value_of(t.answer);
+        let s1 = t.state;
+        let f1 = self.peek_into(buffers, s1, then_branch, d);
+        let r1 = self.lower_materializing(buffers, s1, f1, d);
+        if is_refusal(r1.answer) {
+            return r1;
+        }
+        let mut s = r1.state;
+        let emitted = emit_instruction(buffers.code, s.instructions, Opcode::Jump, 0, 0, 0);
+        let Ok(jump_end) = emitted.place else {
+            return refused(s, Refusal::Code, 0);
+        };
+        s.instructions = emitted.count;
+        patch_to_next(buffers.code, jump_if_false, s.instructions);
+        if else_branch == ABSENT {
+            return refused(s, Refusal::Else, node);
+        }
+        let f2 = self.peek_into(buffers, s, else_branch, d);
+        let r2 = self.lower_materializing(buffers, s, f2, d);
+        if is_refusal(r2.answer) {
+            return r2;
+        }
+        let s2 = r2.state;
+        patch_to_next(buffers.code, jump_end, s2.instructions);
+        answered(s2, d)
+    }
+
+    // Block: destination, then the tail or nil.
+    #[cycle(walk)]
+    pub(crate) fn lower_block(
+        &self,
+        buffers: &mut Buffers,
+        state: State,
+        node: u32,
+        dest: u32,
+    ) -> AnswerAndState
+        requires { (InArena self.now.nodes.now node × (dest ≤ any)) × (node_word_of self.now.nodes.now node 0 ≡ block_kind) }
+        ensures lowers { Walks (λ t. operand_at (node_at t.nodes node)) (λ t. lower_expression free_temp t node (dest_of dest)) self.now buffers.old buffers.new state result }
+        ensures kept { Kept buffers.old buffers.new }
+    {
+        let tail = self.node_word(node, 1);
+        let t = destination(state, dest);
+        if is_refusal(t.answer) {
+            return t;
+        }
+        let d = value_of(t.answer);
+        let s = t.state;
+        if tail == ABSENT {
             let u = s;
-            let r = entry(
-                nodes, list, names, code, constants, marks, u, node, d, key, value,
-            );
+            let r = load_constant(buffers.code, buffers.constants, u, Operand::Nil, d);
             if is_refusal(r.answer) {
                 return r;
             }
             let s1 = r.state;
-            s = s1;
-        } else {
-            s.instructions = f.instructions;
-            s.constants = f.constants;
-            if is_refusal(answer) {
-                return AnswerAndState { state: s, answer };
-            }
+            return answered(s1, d);
         }
-        i += 1;
-    }
-    answered(s, d)
-}
-
-// One entry that was left to the walk, so it has a value. A key that is a name or a literal is pooled after the value is lowered; any other key is lowered
-// before its value.
-#[cycle(walk)]
-fn entry(
-    nodes: &[u8],
-    list: &[u8],
-    names: &[u8],
-    code: &mut [u8],
-    constants: &mut [u8],
-    marks: &mut [u8],
-    state: State,
-    node: u32,
-    d: u32,
-    key: u32,
-    value: u32,
-) -> AnswerAndState
-    requires { (Ready nodes.now list.now names.now node) × EntryBelow node key value }
-    ensures { Lowers (λ t. place_at) (λ t. lower_entry t (lower_expression free_temp t) (register_at d) key value (name_of (node_at t.nodes key))) nodes.now list.now names.now
-        code.old constants.old marks.old code.new constants.new marks.new state result }
-{
-    if node_word(nodes, key, 0) <= kind::IDENTIFIER {
-        let f1 = peek(nodes, names, code, constants, state, value, OPERAND);
-        let r1 = lower_materializing(nodes, list, names, code, constants, marks, state, f1, ANY);
+        let f1 = self.peek_into(buffers, s, tail, d);
+        let r1 = self.lower_materializing(buffers, s, f1, d);
         if is_refusal(r1.answer) {
             return r1;
         }
-        let s1 = r1.state;
-        let src = value_of(r1.answer);
-        return set_property(nodes, code, constants, s1, d, key, value, LITERAL, src);
+        let s2 = r1.state;
+        answered(s2, d)
     }
-    let f2 = peek(nodes, names, code, constants, state, key, OPERAND);
-    let r2 = lower_materializing(nodes, list, names, code, constants, marks, state, f2, ANY);
-    if is_refusal(r2.answer) {
-        return r2;
-    }
-    let src1 = value_of(r2.answer);
-    let s2 = r2.state;
-    let f3 = peek(nodes, names, code, constants, s2, value, OPERAND);
-    let r3 = lower_materializing(nodes, list, names, code, constants, marks, s2, f3, ANY);
-    if is_refusal(r3.answer) {
-        return r3;
-    }
-    let src2 = value_of(r3.answer);
-    let s3 = r3.state;
-    set_property(nodes, code, constants, s3, d, key, value, src1, src2)
-}
 
-// The end of an entry: "Literals left over are pooled last, key before value."
-fn set_property(
-    nodes: &[u8],
-    code: &mut [u8],
-    constants: &mut [u8],
-    state: State,
-    d: u32,
-    key: u32,
-    value: u32,
-    src1: u32,
-    src2: u32,
-) -> AnswerAndState
-    requires { InArena nodes.now key × InArena nodes.now value }
-    ensures { (t : Tree) (E : ℕ → Dest → Walk Operand) (m : List ℕ) → settled (store_keyed t E (register_at d) (source_at (key_operand (node_at (words nodes.now) key)) src1) (source_at (literal (node_at (words nodes.now) value)) src2)
-        (made (words code.old) (words constants.old) m state))
-        ≡ seen t place_at (made (words code.new) (words constants.new) m result.state) result.answer }
-{
-    let mut s = state;
-    let first = field_of(constants, s.constants, src1, key_operand(nodes, key));
-    if first == FULL {
-        return refused(s, Refusal::Constants, 0);
-    }
-    s.constants = pooled_by(s.constants, src1, first);
-    let second = field_of(constants, s.constants, src2, literal(nodes, value));
-    if second == FULL {
-        return refused(s, Refusal::Constants, 0);
-    }
-    s.constants = pooled_by(s.constants, src2, second);
-    let opcode = set_opcode(src1, src2);
-    let n = emit_instruction(code, s.instructions, opcode, reg_of(d), first, second);
-    if n == FULL {
-        return refused(s, Refusal::Code, 0);
-    }
-    s.instructions = counted(s.instructions, n);
-    answered(s, n)
-}
-
-// A node as a condition: the place of the jump that is taken where it is false. What it holds stays held.
-#[cycle(walk)]
-fn lower_jump_if_false(
-    nodes: &[u8],
-    list: &[u8],
-    names: &[u8],
-    code: &mut [u8],
-    constants: &mut [u8],
-    marks: &mut [u8],
-    state: State,
-    node: u32,
-) -> AnswerAndState
-    requires { Ready nodes.now list.now names.now node }
-    ensures { Lowers (λ t. place_at) (λ t. lower_jump_if_false free_temp t node) nodes.now list.now names.now
-        code.old constants.old marks.old code.new constants.new marks.new state result }
-{
-    let f = peek_jump(nodes, names, code, constants, state, node, false);
-    let answer = f.answer;
-    if is_inner(answer) {
-        let t = state;
-        if is_compared(nodes, node) {
-            return fuse(nodes, list, names, code, constants, marks, t, node, false);
+    // Call: the arguments; then destination, callee, Call. Gives back what the callee held.
+    #[cycle(walk)]
+    pub(crate) fn lower_call(
+        &self,
+        buffers: &mut Buffers,
+        state: State,
+        node: u32,
+        dest: u32,
+    ) -> AnswerAndState
+        requires { (InArena self.now.nodes.now node × (dest ≤ any)) × (node_word_of self.now.nodes.now node 0 ≡ call_kind) }
+        ensures lowers { Walks (λ t. operand_at (node_at t.nodes node)) (λ t. lower_expression free_temp t node (dest_of dest)) self.now buffers.old buffers.new state result }
+        ensures kept { Kept buffers.old buffers.new }
+    {
+        let callee = self.node_word(node, 1);
+        let count = self.node_word(node, 3);
+        let a = self.arguments(buffers, state, node);
+        if is_refusal(a.answer) {
+            return a;
         }
-        return test(nodes, list, names, code, constants, marks, t, node, false);
-    }
-    f
-}
-
-// A root as a condition: `lower_jump_if_false` and `lower_jump_if_true`, by the outcome at which the jump is taken.
-#[tactic(auto, using(crate::proofs::Conditions::not_compared))]
-pub(crate) fn lower_jump_if(
-    nodes: &[u8],
-    list: &[u8],
-    names: &[u8],
-    code: &mut [u8],
-    constants: &mut [u8],
-    marks: &mut [u8],
-    state: State,
-    node: u32,
-    sense: bool,
-) -> AnswerAndState
-    requires { Ready nodes.now list.now names.now node }
-    ensures { Lowers (λ t. place_at) (λ t. jump_node t (lower_expression free_temp t) sense (lower_expression free_temp t node) (node_at t.nodes node)) nodes.now list.now names.now
-        code.old constants.old marks.old code.new constants.new marks.new state result }
-{
-    if is_compared(nodes, node) {
-        return fuse(
-            nodes, list, names, code, constants, marks, state, node, sense,
+        let s0 = a.state;
+        let t = destination(s0, dest);
+        if is_refusal(t.answer) {
+            return t;
+        }
+        let d = value_of(t.answer);
+        let s1 = t.state;
+        let f1 = self.peek(buffers, s1, callee, REGISTER);
+        let r1 = self.lower_materializing(buffers, s1, f1, ANY);
+        if is_refusal(r1.answer) {
+            return r1;
+        }
+        let src = value_of(r1.answer);
+        let mut s = r1.state;
+        let emitted = emit_instruction(
+            buffers.code,
+            s.instructions,
+            Opcode::Call,
+            reg_of(d),
+            reg_of(src),
+            count,
         );
+        let Ok(_) = emitted.place else {
+            return refused(s, Refusal::Code, 0);
+        };
+        s.instructions = emitted.count;
+        let held = s.registers;
+        let held1 = held.give_back(src);
+        s.registers = held1;
+        answered(s, d)
     }
-    test(
-        nodes, list, names, code, constants, marks, state, node, sense,
-    )
-}
 
-// Whether a condition is a comparison, whose jump is fused.
-#[tactic(auto, using(crate::proofs::Reading::node_other), unfolding(crate::specs::Kinds::is_compared, syntax::specs::Ast::node_at))]
-fn is_compared(nodes: &[u8], node: u32) -> bool
-    requires { InArena nodes.now node }
-    ensures { result ≡ is_compared (node_at (words nodes.now) node) }
-{
-    if node_word(nodes, node, 0) == kind::BINARY {
-        return is_comparison(node_word(nodes, node, 1));
+    // The arguments of a call: argument i into local i, and the last instruction marked.
+    #[cycle(walk)]
+    pub(crate) fn arguments(&self, buffers: &mut Buffers, state: State, node: u32) -> AnswerAndState
+        requires { InArena self.now.nodes.now node × (node_word_of self.now.nodes.now node 0 ≡ call_kind) }
+        ensures lowers { Walks (λ t. unit_at) (λ t. lower_arguments t (lower_expression free_temp t) node (node_word_of self.now.nodes.now node 2) (node_word_of self.now.nodes.now node 3) 0) self.now buffers.old buffers.new state result }
+        ensures kept { Kept buffers.old buffers.new }
+    {
+        let first = self.node_word(node, 2) as usize;
+        let count = self.node_word(node, 3);
+        let mut s = state;
+        for i in 0..count {
+            let argument = word(self.list, first + (i as usize));
+            let d = local(i);
+            let f1 = self.peek_into(buffers, s, argument, d);
+            let r1 = self.lower_materializing(buffers, s, f1, d);
+            if is_refusal(r1.answer) {
+                return r1;
+            }
+            let s1 = r1.state;
+            s = s1;
+            if s.instructions == 0 {
+                return refused(s, Refusal::Unmarked, node);
+            }
+            let marked = mark_argument(buffers.marks, s.marks, s.instructions);
+            let Ok(_) = marked.place else {
+                return refused(s, Refusal::Marks, 0);
+            };
+            s.marks = marked.count;
+        }
+        answered(s, 0)
     }
-    false
-}
 
-// A node in a register, then JumpIfFalse or JumpIfTrue. Its place is the answer.
-#[cycle(walk)]
-fn test(
-    nodes: &[u8],
-    list: &[u8],
-    names: &[u8],
-    code: &mut [u8],
-    constants: &mut [u8],
-    marks: &mut [u8],
-    state: State,
-    node: u32,
-    sense: bool,
-) -> AnswerAndState
-    requires { Ready nodes.now list.now names.now node }
-    ensures { Lowers (λ t. place_at) (λ t. test t (lower_expression free_temp t) sense (lower_expression free_temp t node)) nodes.now list.now names.now
-        code.old constants.old marks.old code.new constants.new marks.new state result }
-{
-    let t = state;
-    let r = if node_word(nodes, node, 0) < kind::IDENTIFIER {
-        load_constant(code, constants, t, literal(nodes, node), ANY)
-    } else {
-        lower_expression(nodes, list, names, code, constants, marks, t, node, ANY)
-    };
-    if is_refusal(r.answer) {
-        return r;
+    // Property: destination, object, key pooled. Gives back what the object held.
+    #[cycle(walk)]
+    pub(crate) fn property(
+        &self,
+        buffers: &mut Buffers,
+        state: State,
+        node: u32,
+        dest: u32,
+    ) -> AnswerAndState
+        requires { (InArena self.now.nodes.now node × (dest ≤ any)) × (node_word_of self.now.nodes.now node 0 ≡ property_kind) }
+        ensures lowers { Walks (λ t. operand_at (node_at t.nodes node)) (λ t. lower_expression free_temp t node (dest_of dest)) self.now buffers.old buffers.new state result }
+        ensures kept { Kept buffers.old buffers.new }
+    {
+        let object = self.node_word(node, 1);
+        let property = self.node_word(node, 2);
+        let t = destination(state, dest);
+        if is_refusal(t.answer) {
+            return t;
+        }
+        let d = value_of(t.answer);
+        let s1 = t.state;
+        let f1 = self.peek(buffers, s1, object, REGISTER);
+        let r1 = self.lower_materializing(buffers, s1, f1, ANY);
+        if is_refusal(r1.answer) {
+            return r1;
+        }
+        let src = value_of(r1.answer);
+        let mut s = r1.state;
+        let stored = store_constant(buffers.constants, s.constants, Operand::String(property));
+        let Ok(k) = stored.place else {
+            return refused(s, Refusal::Constants, 0);
+        };
+        s.constants = stored.count;
+        let emitted = emit_instruction(
+            buffers.code,
+            s.instructions,
+            Opcode::GetPropertyK,
+            reg_of(d),
+            reg_of(src),
+            k,
+        );
+        let Ok(_) = emitted.place else {
+            return refused(s, Refusal::Code, 0);
+        };
+        s.instructions = emitted.count;
+        let held = s.registers;
+        let held1 = held.give_back(src);
+        s.registers = held1;
+        answered(s, d)
     }
-    let src = value_of(r.answer);
-    let mut s = r.state;
-    let n = emit_instruction(code, s.instructions, jump_if(sense), reg_of(src), 0, 0);
-    if n == FULL {
-        return refused(s, Refusal::Code, 0);
-    }
-    s.instructions = counted(s.instructions, n);
-    answered(s, n)
-}
 
-// Left, right, constants pooled, one fused jump; two literals are tested like anything else. No destination is taken, nothing is given back.
-#[cycle(walk)]
-fn fuse(
-    nodes: &[u8],
-    list: &[u8],
-    names: &[u8],
-    code: &mut [u8],
-    constants: &mut [u8],
-    marks: &mut [u8],
-    state: State,
-    node: u32,
-    sense: bool,
-) -> AnswerAndState
-    requires { (Ready nodes.now list.now names.now node) × (is_compared (node_at (words nodes.now) node) ≡ true) }
-    ensures { Lowers (λ t. place_at) (λ t. jump_node t (lower_expression free_temp t) sense (lower_expression free_temp t node) (node_at t.nodes node)) nodes.now list.now names.now
-        code.old constants.old marks.old code.new constants.new marks.new state result }
-{
-    let left = node_word(nodes, node, 2);
-    let right = node_word(nodes, node, 3);
-    let s0 = state;
-    let f1 = peek(nodes, names, code, constants, s0, left, OPERAND);
-    let r1 = lower_materializing(nodes, list, names, code, constants, marks, s0, f1, ANY);
-    if is_refusal(r1.answer) {
-        return r1;
+    // Map: CreateMap, then entry by entry. What the entries hold stays held.
+    #[cycle(walk)]
+    pub(crate) fn lower_map(
+        &self,
+        buffers: &mut Buffers,
+        state: State,
+        node: u32,
+        dest: u32,
+    ) -> AnswerAndState
+        requires { (InArena self.now.nodes.now node × (dest ≤ any)) × (node_word_of self.now.nodes.now node 0 ≡ map_kind) }
+        ensures lowers { Walks (λ t. operand_at (node_at t.nodes node)) (λ t. lower_expression free_temp t node (dest_of dest)) self.now buffers.old buffers.new state result }
+        ensures kept { Kept buffers.old buffers.new }
+    {
+        let first = self.node_word(node, 1) as usize;
+        let count = self.node_word(node, 2);
+        let t = destination(state, dest);
+        if is_refusal(t.answer) {
+            return t;
+        }
+        let d = value_of(t.answer);
+        let mut s = t.state;
+        let emitted = emit_instruction(
+            buffers.code,
+            s.instructions,
+            Opcode::CreateMap,
+            reg_of(d),
+            0,
+            0,
+        );
+        let Ok(_) = emitted.place else {
+            return refused(s, Refusal::Code, 0);
+        };
+        s.instructions = emitted.count;
+        for i in 0..count {
+            let at = first + 2 * (i as usize);
+            let key = word(self.list, at);
+            let value = word(self.list, at + 1);
+            let f = self.flat_entry(buffers, s.instructions, s.constants, d, key, value);
+            let answer = f.answer;
+            if is_inner(answer) {
+                let u = s;
+                let r = self.entry(buffers, u, node, d, key, value);
+                if is_refusal(r.answer) {
+                    return r;
+                }
+                let s1 = r.state;
+                s = s1;
+            } else {
+                s.instructions = f.instructions;
+                s.constants = f.constants;
+                if is_refusal(answer) {
+                    return AnswerAndState { state: s, answer };
+                }
+            }
+        }
+        answered(s, d)
     }
-    let src1 = value_of(r1.answer);
-    let s1 = r1.state;
-    let f2 = peek(nodes, names, code, constants, s1, right, OPERAND);
-    let r2 = lower_materializing(nodes, list, names, code, constants, marks, s1, f2, ANY);
-    if is_refusal(r2.answer) {
-        return r2;
+
+    // One entry that was left to the walk, so it has a value. A key that is a name or a literal is pooled after the value is lowered; any other key is lowered
+    // before its value.
+    #[cycle(walk)]
+    pub(crate) fn entry(
+        &self,
+        buffers: &mut Buffers,
+        state: State,
+        node: u32,
+        d: u32,
+        key: u32,
+        value: u32,
+    ) -> AnswerAndState
+        requires { InArena self.now.nodes.now node × EntryBelow node key value }
+        ensures lowers { Walks (λ t. place_at) (λ t. lower_entry t (lower_expression free_temp t) (register_at d) key value (name_of (node_at t.nodes key))) self.now buffers.old buffers.new state result }
+        ensures kept { Kept buffers.old buffers.new }
+    {
+        if self.node_word(key, 0) <= kind::IDENTIFIER {
+            let f1 = self.peek(buffers, state, value, OPERAND);
+            let r1 = self.lower_materializing(buffers, state, f1, ANY);
+            if is_refusal(r1.answer) {
+                return r1;
+            }
+            let s1 = r1.state;
+            let src = value_of(r1.answer);
+            return self.set_property(buffers, s1, d, key, value, LITERAL, src);
+        }
+        let f2 = self.peek(buffers, state, key, OPERAND);
+        let r2 = self.lower_materializing(buffers, state, f2, ANY);
+        if is_refusal(r2.answer) {
+            return r2;
+        }
+        let src1 = value_of(r2.answer);
+        let s2 = r2.state;
+        let f3 = self.peek(buffers, s2, value, OPERAND);
+        let r3 = self.lower_materializing(buffers, s2, f3, ANY);
+        if is_refusal(r3.answer) {
+            return r3;
+        }
+        let src2 = value_of(r3.answer);
+        let s3 = r3.state;
+        self.set_property(buffers, s3, d, key, value, src1, src2)
     }
-    let src2 = value_of(r2.answer);
-    let s = r2.state;
-    if (src1 == LITERAL) & (src2 == LITERAL) {
-        let u = s;
-        return test(nodes, list, names, code, constants, marks, u, node, sense);
+
+    // The end of an entry: "Literals left over are pooled last, key before value."
+    pub(crate) fn set_property(
+        &self,
+        buffers: &mut Buffers,
+        state: State,
+        d: u32,
+        key: u32,
+        value: u32,
+        src1: u32,
+        src2: u32,
+    ) -> AnswerAndState
+        requires { InArena self.now.nodes.now key × InArena self.now.nodes.now value }
+        ensures lowers { (t : Tree) (E : ℕ → Option Register → Walk Operand) → settled (store_keyed t E (register_at d) (source_at (key_operand (node_at (words self.now.nodes.now) key)) src1) (source_at (literal (node_at (words self.now.nodes.now) value)) src2)
+            (made_of buffers.old state))
+            ≡ seen t place_at (made_of buffers.new result.state) result.answer }
+        ensures kept { Kept buffers.old buffers.new }
+    {
+        let mut s = state;
+        let first_field = field_of(buffers.constants, s.constants, src1, self.key_operand(key));
+        let Ok(first) = first_field.place else {
+            return refused(s, Refusal::Constants, 0);
+        };
+        s.constants = first_field.count;
+        let second_field = field_of(buffers.constants, s.constants, src2, self.literal(value));
+        let Ok(second) = second_field.place else {
+            return refused(s, Refusal::Constants, 0);
+        };
+        s.constants = second_field.count;
+        let opcode = set_opcode(src1, src2);
+        let emitted = emit_instruction(
+            buffers.code,
+            s.instructions,
+            opcode,
+            reg_of(d),
+            first,
+            second,
+        );
+        let Ok(n) = emitted.place else {
+            return refused(s, Refusal::Code, 0);
+        };
+        s.instructions = emitted.count;
+        answered(s, n)
     }
-    fused_jump(nodes, code, constants, s, node, sense, src1, src2)
+
+    // A node as a condition: the place of the jump that is taken where it is false. What it holds stays held.
+    #[cycle(walk)]
+    pub(crate) fn lower_jump_if_false(
+        &self,
+        buffers: &mut Buffers,
+        state: State,
+        node: u32,
+    ) -> AnswerAndState
+        requires { InArena self.now.nodes.now node }
+        ensures lowers { Walks (λ t. place_at) (λ t. lower_jump_if_false free_temp t node) self.now buffers.old buffers.new state result }
+        ensures kept { Kept buffers.old buffers.new }
+    {
+        let f = self.peek_jump(buffers, state, node, false);
+        let answer = f.answer;
+        if is_inner(answer) {
+            let t = state;
+            if self.is_compared(node) {
+                return self.fuse(buffers, t, node, false);
+            }
+            return self.test(buffers, t, node, false);
+        }
+        f
+    }
+
+    // A root as a condition: `lower_jump_if_false` and `lower_jump_if_true`, by the outcome at which the jump is taken.
+    #[tactic(auto, using(crate::proofs::Conditions::not_compared))]
+    pub(crate) fn lower_jump_if(
+        &self,
+        buffers: &mut Buffers,
+        state: State,
+        node: u32,
+        sense: bool,
+    ) -> AnswerAndState
+        requires { InArena self.now.nodes.now node }
+        ensures lowers { Walks (λ t. place_at) (λ t. jump_node t (lower_expression free_temp t) sense (lower_expression free_temp t node) (node_at t.nodes node)) self.now buffers.old buffers.new state result }
+        ensures kept { Kept buffers.old buffers.new }
+    {
+        if self.is_compared(node) {
+            return self.fuse(buffers, state, node, sense);
+        }
+        self.test(buffers, state, node, sense)
+    }
+
+    // Whether a condition is a comparison, whose jump is fused.
+    #[tactic(auto, using(crate::proofs::Reading::node_other), unfolding(crate::specs::Kinds::is_compared, syntax::specs::Ast::node_at))]
+    pub(crate) fn is_compared(&self, node: u32) -> bool
+        requires { InArena self.now.nodes.now node }
+        ensures { result ≡ is_compared (node_at (words self.now.nodes.now) node) }
+    {
+        if self.node_word(node, 0) == kind::BINARY {
+            return is_comparison(BinaryOp::of(self.node_word(node, 1)));
+        }
+        false
+    }
+
+    // A node in a register, then JumpIfFalse or JumpIfTrue. Its place is the answer.
+    #[cycle(walk)]
+    pub(crate) fn test(
+        &self,
+        buffers: &mut Buffers,
+        state: State,
+        node: u32,
+        sense: bool,
+    ) -> AnswerAndState
+        requires { InArena self.now.nodes.now node }
+        ensures lowers { Walks (λ t. place_at) (λ t. test t (lower_expression free_temp t) sense (lower_expression free_temp t node)) self.now buffers.old buffers.new state result }
+        ensures kept { Kept buffers.old buffers.new }
+    {
+        let t = state;
+        let r = if self.node_word(node, 0) < kind::IDENTIFIER {
+            load_constant(buffers.code, buffers.constants, t, self.literal(node), ANY)
+        } else {
+            self.lower_expression(buffers, t, node, ANY)
+        };
+        if is_refusal(r.answer) {
+            return r;
+        }
+        let src = value_of(r.answer);
+        let mut s = r.state;
+        let emitted = emit_instruction(
+            buffers.code,
+            s.instructions,
+            jump_if(sense),
+            reg_of(src),
+            0,
+            0,
+        );
+        let Ok(n) = emitted.place else {
+            return refused(s, Refusal::Code, 0);
+        };
+        s.instructions = emitted.count;
+        answered(s, n)
+    }
+
+    // Left, right, constants pooled, one fused jump; two literals are tested like anything else. No destination is taken, nothing is given back.
+    #[cycle(walk)]
+    pub(crate) fn fuse(
+        &self,
+        buffers: &mut Buffers,
+        state: State,
+        node: u32,
+        sense: bool,
+    ) -> AnswerAndState
+        requires { InArena self.now.nodes.now node × (is_compared (node_at (words self.now.nodes.now) node) ≡ true) }
+        ensures lowers { Walks (λ t. place_at) (λ t. jump_node t (lower_expression free_temp t) sense (lower_expression free_temp t node) (node_at t.nodes node)) self.now buffers.old buffers.new state result }
+        ensures kept { Kept buffers.old buffers.new }
+    {
+        let left = self.node_word(node, 2);
+        let right = self.node_word(node, 3);
+        let s0 = state;
+        let f1 = self.peek(buffers, s0, left, OPERAND);
+        let r1 = self.lower_materializing(buffers, s0, f1, ANY);
+        if is_refusal(r1.answer) {
+            return r1;
+        }
+        let src1 = value_of(r1.answer);
+        let s1 = r1.state;
+        let f2 = self.peek(buffers, s1, right, OPERAND);
+        let r2 = self.lower_materializing(buffers, s1, f2, ANY);
+        if is_refusal(r2.answer) {
+            return r2;
+        }
+        let src2 = value_of(r2.answer);
+        let s = r2.state;
+        if (src1 == LITERAL) & (src2 == LITERAL) {
+            let u = s;
+            return self.test(buffers, u, node, sense);
+        }
+        self.fused_jump(buffers, s, node, sense, src1, src2)
+    }
 }

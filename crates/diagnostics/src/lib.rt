@@ -1,4 +1,4 @@
-// The refusals of document 01, by name (kaori's errors, panics and limits), and an index that may be refused.
+// The refusals of document 01, by name (kaori's errors, panics and limits), each with its number.
 #![tactic(auto)]
 
 ghost use Rattle.std.specs.Prelude.{◌≡◌};
@@ -6,35 +6,35 @@ ghost use Rattle.diagnostics.specs.Refusal.{refusal_number};
 
 #[derive(Clone, Copy)]
 pub enum Refusal {
-    Size,
-    Root,
-    Kind,
-    Unused,
-    Number,
-    List,
-    Order,
-    Parameters,
-    Undeclared,
-    Registers,
-    Else,
-    Key,
-    Code,
-    Constants,
-    Unmarked,
-    Marks,
-    Destination,
-    Sum,
-    Jump,
+    Size = 1,
+    Root = 2,
+    Kind = 3,
+    Unused = 4,
+    Number = 5,
+    List = 6,
+    Order = 7,
+    Parameters = 8,
+    Undeclared = 9,
+    Registers = 10,
+    Else = 11,
+    Key = 12,
+    Code = 13,
+    Constants = 14,
+    Unmarked = 15,
+    Marks = 16,
+    Destination = 17,
+    Sum = 18,
+    Jump = 19,
 }
 
-// The index of a register, an instruction or a constant, or why there is none.
+// A refusal with the place that it names, 0 where it names none.
 #[derive(Clone, Copy)]
-pub enum Place {
-    At(u32),
-    Refused(Refusal),
+pub struct Refused {
+    pub refusal: Refusal,
+    pub place: u32,
 }
 
-// A refusal with the place and the span that it names, 0 where it names none.
+// The same with the span of that place.
 #[derive(Drop)]
 pub struct Error {
     pub refusal: Refusal,
@@ -47,26 +47,6 @@ impl Refusal {
     pub fn number(self) -> u32
         ensures { result ≡ refusal_number self }
     {
-        match self {
-            Refusal::Size => 1,
-            Refusal::Root => 2,
-            Refusal::Kind => 3,
-            Refusal::Unused => 4,
-            Refusal::Number => 5,
-            Refusal::List => 6,
-            Refusal::Order => 7,
-            Refusal::Parameters => 8,
-            Refusal::Undeclared => 9,
-            Refusal::Registers => 10,
-            Refusal::Else => 11,
-            Refusal::Key => 12,
-            Refusal::Code => 13,
-            Refusal::Constants => 14,
-            Refusal::Unmarked => 15,
-            Refusal::Marks => 16,
-            Refusal::Destination => 17,
-            Refusal::Sum => 18,
-            Refusal::Jump => 19,
-        }
+        self as u32
     }
 }

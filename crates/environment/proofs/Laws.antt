@@ -1,5 +1,6 @@
 -- The laws of registers, parameters and names. Crates above cite these and do not look into the definitions: a set is known by `held` and the frame
 -- size. Assumes nothing.
+use Rattle.std.specs.Prelude.{Result, Ok, Err}
 use mathlib.Core.Path.{◌≡◌, refl, sym, ap, ◌∙◌, subst}
 use mathlib.Core.Logic.{◌≢◌, ◌↔◌}
 use mathlib.Core.List.{List}
@@ -11,11 +12,9 @@ use lib.Dec.{ltb, eqb}
 use lib.ListN.{length, get_or}
 use borrow.Author.Tests.{lt-ltb, le-ltb, ltb-true, ltb-false, eqb-true, eqb-false, not-false}
 use Rattle.diagnostics.specs.declared.Refusal.{Refusal}
-use Rattle.diagnostics.specs.declared.Place.{Place}
 use Rattle.environment.specs.declared.Register.{Register}
 use Rattle.environment.specs.declared.RegisterSet.{RegisterSet}
 use Rattle.environment.specs.declared.Taken.{Taken}
-use Rattle.environment.specs.declared.Found.{Found}
 use Rattle.environment.specs.Registers.{all_free, free, smallest_free, put_back, without, taken, given_back, held}
 use Rattle.environment.specs.Environment.{found, allocated, freed, parameters, lookup}
 use Rattle.environment.specs.Laws.{Sound, Takes, Refuses, Gives, GivesFree, Last, Undeclared}
@@ -52,10 +51,10 @@ held_of_same_free s t j h = rw h
 
 -- what `taken` is, by the smallest free register
 abbrev taken_at : RegisterSet → Taken
-taken_at s = record { set = without s (smallest_free s.words); place = Place.At (smallest_free s.words) }
+taken_at s = record { set = without s (smallest_free s.words); place = Ok (smallest_free s.words) }
 
 abbrev taken_none : RegisterSet → Taken
-taken_none s = record { set = s; place = Place.Refused Refusal.Registers }
+taken_none s = record { set = s; place = Err Refusal.Registers }
 
 module _ (s : RegisterSet) where
   smallest_takes : smallest_free s.words < 256 → Takes s (smallest_free s.words) (without s (smallest_free s.words))
@@ -75,31 +74,31 @@ module _ (s : RegisterSet) where
       }
 
   -- a register answered is the smallest that was not held, and is held now
-  pub takes : (r : ℕ) (t : RegisterSet) → taken s ≡ record { set = t; place = Place.At r } → Takes s r t
+  pub takes : (r : ℕ) (t : RegisterSet) → taken s ≡ record { set = t; place = Ok r } → Takes s r t
   unfolding taken
   takes r t h = go (ltb (smallest_free s.words) 256) refl h
     where
-      go : (b : Bool) → ltb (smallest_free s.words) 256 ≡ b → cond b (taken_at s) (taken_none s) ≡ record { set = t; place = Place.At r } → Takes s r t
+      go : (b : Bool) → ltb (smallest_free s.words) 256 ≡ b → cond b (taken_at s) (taken_none s) ≡ record { set = t; place = Ok r } → Takes s r t
       go true q p =
-          let places : Place.At (smallest_free s.words) ≡ Place.At r = ap (λ (x : Taken). x.place) p in
+          let places : Ok (smallest_free s.words) ≡ Ok r = ap (λ (x : Taken). x.place) p in
           let same : smallest_free s.words ≡ r = cc in
           let sets : without s (smallest_free s.words) ≡ t = ap (λ (x : Taken). x.set) p in
           subst (λ k. Takes s k t) same (subst (λ u. Takes s (smallest_free s.words) u) sets (smallest_takes (ltb-true _ _ q)))
       go false q p =
-          let places : Place.Refused Refusal.Registers ≡ Place.At r = ap (λ (x : Taken). x.place) p in
+          let places : Err Refusal.Registers ≡ Ok r = ap (λ (x : Taken). x.place) p in
           let z : ◌≡◌ {A = ℕ} 0 1 = cc in
           absurd (omega arith)
 
   -- the same, of the parts of the answer
-  pub place_takes : (r : ℕ) → (taken s).place ≡ Place.At r → Takes s r (taken s).set
-  place_takes r h = takes r (taken s).set (ap (λ (p : Place). record { set = (taken s).set; place = p }) h)
+  pub place_takes : (r : ℕ) → (taken s).place ≡ Ok r → Takes s r (taken s).set
+  place_takes r h = takes r (taken s).set (ap (λ (p : Result ℕ Refusal). record { set = (taken s).set; place = p }) h)
 
   -- a refusal is that of registers, leaves the set, and is answered only where all 256 are held
-  pub take_refused : (refusal : Refusal) → (taken s).place ≡ Place.Refused refusal → Refuses s refusal (taken s).set
+  pub take_refused : (refusal : Refusal) → (taken s).place ≡ Err refusal → Refuses s refusal (taken s).set
   unfolding taken
   take_refused refusal h = go (ltb (smallest_free s.words) 256) refl h
     where
-      go : (b : Bool) → ltb (smallest_free s.words) 256 ≡ b → (cond b (taken_at s) (taken_none s)).place ≡ Place.Refused refusal →
+      go : (b : Bool) → ltb (smallest_free s.words) 256 ≡ b → (cond b (taken_at s) (taken_none s)).place ≡ Err refusal →
           Refuses s refusal (cond b (taken_at s) (taken_none s)).set
       go true q p = let z : ◌≡◌ {A = ℕ} 0 1 = cc in absurd (omega arith)
       go false q p = record {
@@ -109,7 +108,7 @@ module _ (s : RegisterSet) where
       }
 
   -- and it is answered wherever all 256 are held
-  pub take_full : ((j : ℕ) → j < 256 → held s j ≡ true) → taken s ≡ record { set = s; place = Place.Refused Refusal.Registers }
+  pub take_full : ((j : ℕ) → j < 256 → held s j ≡ true) → taken s ≡ record { set = s; place = Err Refusal.Registers }
   unfolding taken
   take_full h = rw (smallest_free_none s.words (λ j l. not_free j l (free s.words j) refl))
     where
@@ -118,12 +117,12 @@ module _ (s : RegisterSet) where
       not_free j l false e = refl
 
   -- where some register is not held, one is answered
-  pub take_answered : (r : ℕ) → r < 256 → held s r ≡ false → (q : ℕ) × ((taken s).place ≡ Place.At q)
+  pub take_answered : (r : ℕ) → r < 256 → held s r ≡ false → (q : ℕ) × ((taken s).place ≡ Ok q)
   take_answered r l h = go (taken s).place refl
     where
-      go : (p : Place) → (taken s).place ≡ p → (q : ℕ) × ((taken s).place ≡ Place.At q)
-      go (Place.At q) e = (q, e)
-      go (Place.Refused refusal) e = absurd (true≢false (sym ((take_refused refusal e).all_held r l) ∙ h))
+      go : (p : Result ℕ Refusal) → (taken s).place ≡ p → (q : ℕ) × ((taken s).place ≡ Ok q)
+      go (Ok q) e = (q, e)
+      go (Err refusal) e = absurd (true≢false (sym ((take_refused refusal e).all_held r l) ∙ h))
 
 -- a take from a sound set
 module _ {s t : RegisterSet} {r : ℕ} (k : Takes s r t) (sound : Sound s) where
@@ -147,9 +146,9 @@ module _ {s t : RegisterSet} {r : ℕ} (k : Takes s r t) (sound : Sound s) where
 pub taken_sound : (s : RegisterSet) → Sound s → Sound (taken s).set
 taken_sound s sound = go (taken s).place refl
   where
-    go : (p : Place) → (taken s).place ≡ p → Sound (taken s).set
-    go (Place.At r) e = take_sound (place_takes s r e) sound
-    go (Place.Refused refusal) e = rw (take_refused s refusal e).unchanged sound
+    go : (p : Result ℕ Refusal) → (taken s).place ≡ p → Sound (taken s).set
+    go (Ok r) e = take_sound (place_takes s r e) sound
+    go (Err refusal) e = rw (take_refused s refusal e).unchanged sound
 
 -- a held register given back to a sound set is not held, and nothing else changes
 pub gives : (s : RegisterSet) (r : ℕ) → Sound s → held s r ≡ true → Gives s r (given_back s r)
@@ -222,22 +221,22 @@ pub record Allocates (kind : ℕ → Register) (s : RegisterSet) (register : Reg
 
 module _ (kind : ℕ → Register) (s : RegisterSet) where
   -- a register answered is taken
-  pub allocates : (register : Register) → (allocated kind s).register ≡ Found.At register → Allocates kind s register (allocated kind s).set
+  pub allocates : (register : Register) → (allocated kind s).register ≡ Ok register → Allocates kind s register (allocated kind s).set
   unfolding allocated found
   allocates register h = go (taken s).place refl h
     where
-      go : (p : Place) → (taken s).place ≡ p → found kind p ≡ Found.At register → Allocates kind s register (taken s).set
-      go (Place.At r) e q = record { number = r; of_kind = cc; takes = place_takes s r e }
-      go (Place.Refused refusal) e q = let z : ◌≡◌ {A = ℕ} 0 1 = cc in absurd (omega arith)
+      go : (p : Result ℕ Refusal) → (taken s).place ≡ p → found kind p ≡ Ok register → Allocates kind s register (taken s).set
+      go (Ok r) e q = record { number = r; of_kind = cc; takes = place_takes s r e }
+      go (Err refusal) e q = let z : ◌≡◌ {A = ℕ} 0 1 = cc in absurd (omega arith)
 
   -- a refusal is that of the take
-  pub allocation_refused : (refusal : Refusal) → (allocated kind s).register ≡ Found.Refused refusal → Refuses s refusal (allocated kind s).set
+  pub allocation_refused : (refusal : Refusal) → (allocated kind s).register ≡ Err refusal → Refuses s refusal (allocated kind s).set
   unfolding allocated found
   allocation_refused refusal h = go (taken s).place refl h
     where
-      go : (p : Place) → (taken s).place ≡ p → found kind p ≡ Found.Refused refusal → Refuses s refusal (taken s).set
-      go (Place.At r) e q = let z : ◌≡◌ {A = ℕ} 0 1 = cc in absurd (omega arith)
-      go (Place.Refused other) e q = let same : other ≡ refusal = cc in rw same at (take_refused s other e)
+      go : (p : Result ℕ Refusal) → (taken s).place ≡ p → found kind p ≡ Err refusal → Refuses s refusal (taken s).set
+      go (Ok r) e q = let z : ◌≡◌ {A = ℕ} 0 1 = cc in absurd (omega arith)
+      go (Err other) e q = let same : other ≡ refusal = cc in rw same at (take_refused s other e)
 
   -- the set is sound, whatever is answered
   pub allocated_sound : Sound s → Sound (allocated kind s).set
@@ -260,7 +259,7 @@ module _ (n : ℕ) where
   parameters_frame h = rw (parameters_lowest n) (omega arith)
 
   -- the next parameter takes register n
-  pub parameters_next : n < 256 → (allocated Register.Local (parameters n)).register ≡ Found.At (Register.Local n)
+  pub parameters_next : n < 256 → (allocated Register.Local (parameters n)).register ≡ Ok (Register.Local n)
   unfolding allocated found taken
   parameters_next l = rw (parameters_lowest n, smallest_free_lem n l, lt-ltb n 256 l)
 
@@ -303,44 +302,44 @@ module _ (names : List ℕ) where
       go j l (no q) = k.none j (omega arith)
 
   -- a name found is the last of that name
-  pub lookup_found : (n x : ℕ) (register : Register) → lookup names n x ≡ Found.At register → Last names n x register
+  pub lookup_found : (n x : ℕ) (register : Register) → lookup names n x ≡ Ok register → Last names n x register
   unfolding lookup
   lookup_found zero x register h = let z : ◌≡◌ {A = ℕ} 0 1 = cc in absurd (omega arith)
   lookup_found (suc n) x register h = go (eqb (get_or names n 0) x) refl h (lookup_found n x register)
     where
-      go : (b : Bool) → eqb (get_or names n 0) x ≡ b → cond b (Found.At (Register.Local n)) (lookup names n x) ≡ Found.At register →
-          (lookup names n x ≡ Found.At register → Last names n x register) → Last names (suc n) x register
+      go : (b : Bool) → eqb (get_or names n 0) x ≡ b → cond b (Ok (Register.Local n)) (lookup names n x) ≡ Ok register →
+          (lookup names n x ≡ Ok register → Last names n x register) → Last names (suc n) x register
       go true e p before = record { index = n; local = cc; in_range = omega arith; named = eqb-true _ _ e; later = λ j a b. absurd (omega arith) }
       go false e p before = last_more n x register (eqb-false _ _ e) (before p)
 
   -- a name refused is not there
-  pub lookup_refused : (n x : ℕ) (refusal : Refusal) → lookup names n x ≡ Found.Refused refusal → Undeclared names n x refusal
+  pub lookup_refused : (n x : ℕ) (refusal : Refusal) → lookup names n x ≡ Err refusal → Undeclared names n x refusal
   unfolding lookup
   lookup_refused zero x refusal h = record { reason = cc; none = λ j l. absurd (omega arith) }
   lookup_refused (suc n) x refusal h = go (eqb (get_or names n 0) x) refl h (lookup_refused n x refusal)
     where
-      go : (b : Bool) → eqb (get_or names n 0) x ≡ b → cond b (Found.At (Register.Local n)) (lookup names n x) ≡ Found.Refused refusal →
-          (lookup names n x ≡ Found.Refused refusal → Undeclared names n x refusal) → Undeclared names (suc n) x refusal
+      go : (b : Bool) → eqb (get_or names n 0) x ≡ b → cond b (Ok (Register.Local n)) (lookup names n x) ≡ Err refusal →
+          (lookup names n x ≡ Err refusal → Undeclared names n x refusal) → Undeclared names (suc n) x refusal
       go true e p before = let z : ◌≡◌ {A = ℕ} 0 1 = cc in absurd (omega arith)
       go false e p before = undeclared_more n x refusal (eqb-false _ _ e) (before p)
 
   module _ (n x i : ℕ) (in_range : i < n) (named : get_or names i 0 ≡ x) where
     -- a name that is there is found
-    pub lookup_declared : (register : Register) × (lookup names n x ≡ Found.At register)
+    pub lookup_declared : (register : Register) × (lookup names n x ≡ Ok register)
     lookup_declared = go (lookup names n x) refl
       where
-        go : (f : Found) → lookup names n x ≡ f → (register : Register) × (lookup names n x ≡ Found.At register)
-        go (Found.At register) e = (register, e)
-        go (Found.Refused refusal) e = absurd ((lookup_refused n x refusal e).none i in_range named)
+        go : (f : Result Register Refusal) → lookup names n x ≡ f → (register : Register) × (lookup names n x ≡ Ok register)
+        go (Ok register) e = (register, e)
+        go (Err refusal) e = absurd ((lookup_refused n x refusal e).none i in_range named)
 
     -- and the last one of the name is what is found
-    pub lookup_last : ((j : ℕ) → i < j → j < n → get_or names j 0 ≢ x) → lookup names n x ≡ Found.At (Register.Local i)
+    pub lookup_last : ((j : ℕ) → i < j → j < n → get_or names j 0 ≢ x) → lookup names n x ≡ Ok (Register.Local i)
     lookup_last later = go lookup_declared
       where
-        go : (register : Register) × (lookup names n x ≡ Found.At register) → lookup names n x ≡ Found.At (Register.Local i)
+        go : (register : Register) × (lookup names n x ≡ Ok register) → lookup names n x ≡ Ok (Register.Local i)
         go (register, e) =
             let k : Last names n x register = lookup_found n x register e in
-            e ∙ ap Found.At (k.local ∙ ap Register.Local (same k (dec_lt k.index i) (dec_lt i k.index)))
+            e ∙ ap Ok (k.local ∙ ap Register.Local (same k (dec_lt k.index i) (dec_lt i k.index)))
           where
             same : (k : Last names n x register) → Dec (k.index < i) → Dec (i < k.index) → k.index ≡ i
             same k (yes a) b = absurd (k.later i a in_range named)

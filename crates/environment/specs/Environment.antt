@@ -1,17 +1,15 @@
 -- environment.rs: locals and temporaries, the parameters' registers, and the lookup of a name.
-use Rattle.std.specs.Prelude.{ℕ, zero, suc, List, cond, eqb, get_or}
+use Rattle.std.specs.Prelude.{ℕ, zero, suc, List, cond, eqb, get_or, Result, Ok, Err}
 use Rattle.diagnostics.specs.declared.Refusal.{Refusal}
-use Rattle.diagnostics.specs.declared.Place.{Place}
 use Rattle.environment.specs.declared.Register.{Register}
 use Rattle.environment.specs.declared.RegisterSet.{RegisterSet}
-use Rattle.environment.specs.declared.Found.{Found}
 use Rattle.environment.specs.declared.Allocated.{Allocated}
 use Rattle.environment.specs.Registers.{all_free, taken, given_back}
 
 -- a register's number read as a temporary or a local
-unfoldable pub found : (ℕ → Register) → Place → Found
-found kind (Place.At r) = Found.At (kind r)
-found kind (Place.Refused refusal) = Found.Refused refusal
+unfoldable pub found : (ℕ → Register) → Result ℕ Refusal → Result Register Refusal
+found kind (Ok r) = Ok (kind r)
+found kind (Err refusal) = Err refusal
 
 -- `allocate_temp`, `allocate_local`
 unfoldable pub allocated : (ℕ → Register) → RegisterSet → Allocated
@@ -28,6 +26,6 @@ parameters zero = all_free
 parameters (suc n) = (allocated Register.Local (parameters n)).set
 
 -- "The last parameter of a name wins"; "9: Is the name declared?"
-unfoldable pub lookup : List ℕ → ℕ → ℕ → Found
-lookup names zero name = Found.Refused Refusal.Undeclared
-lookup names (suc n) name = cond (eqb (get_or names n 0) name) (Found.At (Register.Local n)) (lookup names n name)
+unfoldable pub lookup : List ℕ → ℕ → ℕ → Result Register Refusal
+lookup names zero name = Err Refusal.Undeclared
+lookup names (suc n) name = cond (eqb (get_or names n 0) name) (Ok (Register.Local n)) (lookup names n name)

@@ -1,7 +1,6 @@
 -- "a register set holds its 256 members as bits of four 64-bit words. Taking or giving back a register hands the set back changed."
-use Rattle.std.specs.Prelude.{ℕ, zero, suc, ◌+◌, ◌/◌, ◌%◌, max, List, [], ◌∷◌, Bool, cond, not, ◌&&◌, ltb, eqb, get_or, set}
+use Rattle.std.specs.Prelude.{ℕ, zero, suc, ◌+◌, ◌/◌, ◌%◌, max, List, [], ◌∷◌, Bool, cond, not, ◌&&◌, ltb, eqb, get_or, set, Ok, Err}
 use Rattle.diagnostics.specs.declared.Refusal.{Refusal}
-use Rattle.diagnostics.specs.declared.Place.{Place}
 use Rattle.environment.specs.declared.RegisterSet.{RegisterSet}
 use Rattle.environment.specs.declared.Taken.{Taken}
 use Rattle.environment.specs.Bits.{bit, clear, flip}
@@ -57,8 +56,8 @@ without s r = record { words = take_out s.words r; frame_size = max s.frame_size
 unfoldable pub taken : RegisterSet → Taken
 taken s =
     cond (ltb (smallest_free s.words) register_count)
-    (record { set = without s (smallest_free s.words); place = Place.At (smallest_free s.words) })
-    (record { set = s; place = Place.Refused Refusal.Registers })
+    (record { set = without s (smallest_free s.words); place = Ok (smallest_free s.words) })
+    (record { set = s; place = Err Refusal.Registers })
 
 -- register r given back: it is free if it was held, and the frame size stays. If it was free it is held afterwards, so that a second give-back shows. A number
 -- past 255 changes nothing.

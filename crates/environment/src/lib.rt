@@ -6,8 +6,8 @@ ghost use Rattle.words.specs.Words.{words};
 ghost use Rattle.environment.specs.Registers.{word_bits, all_free, smallest_free, taken, given_back, held};
 ghost use Rattle.environment.specs.Environment.{allocated, freed, parameters, lookup};
 
-use diagnostics::{Place, Refusal};
-use words::{FULL, last_position};
+use diagnostics::Refusal;
+use words::last_position;
 
 // How many registers there are.
 pub const REGISTERS: u32 = 256;
@@ -36,20 +36,14 @@ pub struct RegisterSet {
 #[derive(Drop)]
 pub struct Taken {
     pub set: RegisterSet,
-    pub place: Place,
-}
-
-#[derive(Drop)]
-pub enum Found {
-    At(Register),
-    Refused(Refusal),
+    pub place: Result<u32, Refusal>,
 }
 
 // The set afterwards, and the register or why there is none.
 #[derive(Drop)]
 pub struct Allocated {
     pub set: RegisterSet,
-    pub register: Found,
+    pub register: Result<Register, Refusal>,
 }
 
 // The bit of register r in word i of a set, or 0 where the register is in another word.
@@ -145,12 +139,12 @@ impl RegisterSet {
             let frame_size = if old < r + 1 { r + 1 } else { old };
             Taken {
                 set: RegisterSet { words, frame_size },
-                place: Place::At(r),
+                place: Ok(r),
             }
         } else {
             Taken {
                 set: self,
-                place: Place::Refused(Refusal::Registers),
+                place: Err(Refusal::Registers),
             }
         }
     }
@@ -181,18 +175,10 @@ impl RegisterSet {
     pub fn allocate_local(self) -> Allocated
         ensures { result ≡ allocated Register.Local self }
     {
-        let taken = self.take();
-        let set = taken.set;
-        let place = taken.place;
-        match place {
-            Place::At(r) => Allocated {
-                set: set,
-                register: Found::At(Register::Local(r)),
-            },
-            Place::Refused(refusal) => Allocated {
-                set: set,
-                register: Found::Refused(refusal),
-            },
+        let Taken { set, place } = self.take();
+        Allocated {
+            set,
+            register: place.map(Register::Local),
         }
     }
 
@@ -200,18 +186,10 @@ impl RegisterSet {
     pub fn allocate_temp(self) -> Allocated
         ensures { result ≡ allocated Register.Temp self }
     {
-        let taken = self.take();
-        let set = taken.set;
-        let place = taken.place;
-        match place {
-            Place::At(r) => Allocated {
-                set: set,
-                register: Found::At(Register::Temp(r)),
-            },
-            Place::Refused(refusal) => Allocated {
-                set: set,
-                register: Found::Refused(refusal),
-            },
+        let Taken { set, place } = self.take();
+        Allocated {
+            set,
+            register: place.map(Register::Temp),
         }
     }
 
@@ -243,12 +221,11 @@ impl RegisterSet {
 }
 
 // The register of the last of the first `arity` names that is `name`.
-pub fn lookup(names: &[u8], arity: u32, name: u32) -> Found
+pub fn lookup(names: &[u8], arity: u32, name: u32) -> Result<Register, Refusal>
     ensures { result ≡ lookup (words names.now) arity name }
 {
-    let i = last_position(names, arity, name);
-    if i == FULL {
-        return Found::Refused(Refusal::Undeclared);
+    match last_position(names, arity, name) {
+        Some(i) => Ok(Register::Local(i)),
+        None => Err(Refusal::Undeclared),
     }
-    Found::At(Register::Local(i))
 }

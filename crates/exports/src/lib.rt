@@ -41,5 +41,8 @@ pub extern "C" fn sewurogi_patch_jump(code: &mut [u8], count: u32, index: u32, o
     ensures number { result ≡ (patch_jump (words code.old) count index offset).number }
     ensures bytes { code.new ≡ bytes_of (patch_jump (words code.old) count index offset).code ++ tail code.old }
 {
-    patch_jump(code, count, index, offset)
+    match patch_jump(code, count, index, offset) {
+        Ok(()) => 0,
+        Err(refusal) => refusal.number(),
+    }
 }

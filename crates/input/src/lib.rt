@@ -8,7 +8,7 @@ use std::io;
 use std::io::Read;
 
 // Reads until `buf` is full or the input ends. The answer is how many bytes were read: they stand at the start of `buf`, as the input had them, and if they do not
-// fill it, no more are left.
+// fill it, no more are left. A `while`: `read_exact` fails where the input ends before the buffer is full, and `read_to_end` allocates.
 pub fn read_full<R: Read>(input: &mut R, buf: &mut [u8]) -> io::Result<usize>
     ensures within { IfOk result (λ n. n ≤ length buf.new) }
     ensures bytes { IfOk result (λ n. Consumes (R.remaining input.old) (R.remaining input.new) (take n buf.new)) }

@@ -1,53 +1,37 @@
 -- The laws of columns: a column read and written byte by byte, and that what is written is read back. Assumes nothing.
-use mathlib.Core.Path.{◌≡◌, refl, sym, ap, ◌∙◌}
+use Rattle.std.specs.Prelude.{Some, None}
+use Rattle.std.specs.List.{fold}
+use Rattle.std.proofs.lemmas.Bool.{and_parts}
+use Rattle.std.proofs.lemmas.List.Sums.{fold-append}
+use mathlib.Core.Path.{◌≡◌, refl, sym, ap, ap₂, ◌∙◌}
 use mathlib.Core.List.{List, [], ◌∷◌, ◌++◌}
 use mathlib.Core.Logic.{◌≢◌}
-use mathlib.Core.Bool.{Bool, true, false, ◌&&◌}
+use mathlib.Core.Bool.{true}
 use Prim.Native.Nat.{ℕ, zero, suc, ◌+◌, ◌*◌, ◌-◌, ◌/◌, ◌%◌, ◌^◌, ◌≤◌, ◌<◌}
 use native.Mathlib.Omega.{arith}
 use native.Mathlib.Nat.{add-zero}
 use lib.Dec.{leb}
-use lib.ListN.{length, get_or, set, drop, length-append, length-drop}
-use lib.Seq.{sets, drop-cons, set_comm}
+use lib.ListN.{length, set, take, drop, length-append, length-drop, take-append-drop}
+use lib.Seq.{sets, length-take-le, set_comm}
 use borrow.Author.Tests.{lt-ltb, le-leb, leb-true, ne_eqb}
 use Rattle.listing.specs.declared.column.Column.{Column}
-use Rattle.listing.specs.Column.{column_bytes, space, digit_zero, digit_nine, max_word, is_digit_byte, first, more, step, read_bytes, read_column, padding, padded, write_column}
-
-pub false≢true : false ≡ true → ⊥
-false≢true e = let z : ◌≡◌ {A = ℕ} 0 1 = cc in omega arith
-
-pub and_true : (a b : Bool) → (a && b) ≡ true → (a ≡ true) × (b ≡ true)
-and_true true b e = (refl, e)
-and_true false b e = absurd (false≢true e)
+use Rattle.listing.specs.Column.{column_bytes, space, digit_zero, digit_nine, max_word, is_digit_byte, first, more, step, read_bytes, read_column, column_number, padding, padded, write_column}
 
 pub digit_bounds : (b : ℕ) → is_digit_byte b ≡ true → (digit_zero ≤ b) × (b ≤ digit_nine)
 digit_bounds b e =
-    let both = and_true (leb digit_zero b) (leb b digit_nine) e in
+    let both = and_parts (leb digit_zero b) (leb b digit_nine) e in
     (leb-true digit_zero b both.0, leb-true b digit_nine both.1)
 
--- reading: a text that is too short, one byte more
+-- reading: a text that is too short
 pub read_short : (n : ℕ) (c : Column) (s : List ℕ) → length s < n → read_bytes n c s ≡ Column.Bad
 unfolding read_bytes
 read_short zero c s h = absurd (omega arith)
 read_short (suc n) c [] h = refl
 read_short (suc n) c (b ∷ s) h = read_short n (step c b) s (omega arith)
 
-pub read_more : (n : ℕ) (c : Column) (s : List ℕ) (i : ℕ) → i < length s → read_bytes (suc n) c (drop i s) ≡ read_bytes n (step c (get_or s i 0)) (drop (suc i) s)
-unfolding read_bytes
-read_more n c s i h = rw (drop-cons s i 0 h)
-
 -- the bytes of a column, one after the other
-unfoldable pub steps : Column → List ℕ → Column
-steps c [] = c
-steps c (b ∷ bs) = steps (step c b) bs
-
-pub steps_append : (c : Column) (bs ds : List ℕ) → steps c (bs ++ ds) ≡ steps (steps c bs) ds
-unfolding steps
-steps_append c [] ds = refl
-steps_append c (b ∷ bs) ds = steps_append (step c b) bs ds
-
-pub read_steps : (c : Column) (bs s : List ℕ) → read_bytes (length bs) c (bs ++ s) ≡ steps c bs
-unfolding read_bytes steps
+pub read_steps : (c : Column) (bs s : List ℕ) → read_bytes (length bs) c (bs ++ s) ≡ fold step c bs
+unfolding read_bytes
 read_steps c [] s = refl
 read_steps c (b ∷ bs) s = read_steps (step c b) bs s
 
@@ -88,12 +72,12 @@ unfolding padding left step first
 left_padding zero h = refl
 left_padding (suc x) h = rw (ne_eqb (suc x) 0 (λ e. absurd (omega arith))) (left_digit (suc x) h)
 
-padded_read : (n x : ℕ) → x < 10 ^ n → x ≤ max_word → steps Column.Blank (padded n x) ≡ left x
-unfolding padded steps left
+padded_read : (n x : ℕ) → x < 10 ^ n → x ≤ max_word → fold step Column.Blank (padded n x) ≡ left x
+unfolding padded left
 padded_read zero x f h = let e : x ≡ 0 = omega arith in rw e
 padded_read (suc n) x f h =
-    let ih : steps Column.Blank (padded n (x / 10)) ≡ left (x / 10) = padded_read n (x / 10) (omega arith) (omega arith) in
-    steps_append Column.Blank (padded n (x / 10)) (padding x ∷ []) ∙ rw ih (left_padding x h)
+    let ih : fold step Column.Blank (padded n (x / 10)) ≡ left (x / 10) = padded_read n (x / 10) (omega arith) (omega arith) in
+    fold-append step Column.Blank (padded n (x / 10)) (padding x ∷ []) ∙ rw ih (left_padding x h)
 
 pub length_padded : (n x : ℕ) → length (padded n x) ≡ n
 unfolding padded
@@ -104,11 +88,11 @@ pub length_column : (x : ℕ) → length (write_column x) ≡ column_bytes
 unfolding write_column
 length_column x = omega (arith, length-append (padded 10 (x / 10)) ((digit_zero + x % 10) ∷ []), length_padded 10 (x / 10))
 
-steps_column : (x : ℕ) → x ≤ max_word → steps Column.Blank (write_column x) ≡ Column.Number x
-unfolding write_column steps
+steps_column : (x : ℕ) → x ≤ max_word → fold step Column.Blank (write_column x) ≡ Column.Number x
+unfolding write_column
 steps_column x h =
     let small : x / 10 < 10 ^ 10 = omega arith in
-    steps_append Column.Blank (padded 10 (x / 10)) ((digit_zero + x % 10) ∷ []) ∙ rw (padded_read 10 (x / 10) small (omega arith)) (left_digit x h)
+    fold-append step Column.Blank (padded 10 (x / 10)) ((digit_zero + x % 10) ∷ []) ∙ rw (padded_read 10 (x / 10) small (omega arith)) (left_digit x h)
 
 -- A number that is written is read back.
 pub column_back : (x : ℕ) (s : List ℕ) → x ≤ max_word → read_column (write_column x ++ s) ≡ Column.Number x
@@ -117,26 +101,20 @@ column_back x s h =
     ap (λ (n : ℕ). read_bytes n Column.Blank (write_column x ++ s)) (sym (length_column x))
     ∙ read_steps Column.Blank (write_column x) s ∙ steps_column x h
 
--- the column at `at`, of which k bytes are passed
-module _ (s : List ℕ) (at : ℕ) where
-  pub column_start : read_bytes (column_bytes - 0) Column.Blank (drop (at + 0) s) ≡ read_column (drop at s)
-  unfolding read_column
-  column_start = rw (add-zero at)
+pub number_back : (x : ℕ) (s : List ℕ) → x ≤ max_word → column_number (read_column (write_column x ++ s)) ≡ Some x
+unfolding column_number
+number_back x s h = ap column_number (column_back x s h)
 
-  pub column_more : (c : Column) (k : ℕ) {q : Column} → k < column_bytes → at + k < length s → read_bytes (column_bytes - k) c (drop (at + k) s) ≡ q
-      → read_bytes (column_bytes - (k + 1)) (step c (get_or s (at + k) 0)) (drop (at + (k + 1)) s) ≡ q
-  column_more c k h l i =
-      let n : column_bytes - k ≡ suc (column_bytes - (k + 1)) = omega arith in
-      let e : at + (k + 1) ≡ suc (at + k) = omega arith in
-      rw e (sym (read_more (column_bytes - (k + 1)) c s (at + k) l) ∙ (rw n at i))
+-- a column is what its bytes say, one after the other; a text that is too short has none
+pub column_folded : (s : List ℕ) {column : List ℕ} → column_bytes ≤ length s → column ≡ take column_bytes s → read_column s ≡ fold step Column.Blank column
+unfolding read_column
+column_folded s {column} h e =
+    rw e (ap₂ (λ (n : ℕ) (l : List ℕ). read_bytes n Column.Blank l) (sym (length-take-le column_bytes s h)) (sym (take-append-drop column_bytes s))
+    ∙ read_steps Column.Blank (take column_bytes s) (drop column_bytes s))
 
-  pub column_end : (c : Column) (k : ℕ) {q : Column} → column_bytes ≤ k → read_bytes (column_bytes - k) c (drop (at + k) s) ≡ q → c ≡ q
-  unfolding read_bytes
-  column_end c k h i = let n : column_bytes - k ≡ 0 = omega arith in rw n at i
-
-  pub column_short : length s < at + column_bytes → Column.Bad ≡ read_column (drop at s)
-  unfolding read_column
-  column_short h = sym (read_short column_bytes Column.Blank (drop at s) (omega (arith, length-drop at s)))
+pub column_short : (s : List ℕ) (at : ℕ) → length s < at + column_bytes → column_number (read_column (drop at s)) ≡ None
+unfolding read_column column_number
+column_short s at h = rw (read_short column_bytes Column.Blank (drop at s) (omega (arith, length-drop at s)))
 
 -- writing: the last of a run of stores may be the first
 sets_last : (l : List ℕ) (i : ℕ) (vs : List ℕ) (v : ℕ) → sets l i (vs ++ (v ∷ [])) ≡ sets (set l (i + length vs) v) i vs

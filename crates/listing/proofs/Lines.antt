@@ -1,4 +1,5 @@
 -- The laws of lines: a line and a run of lines read into a buffer, column by column and line by line. Assumes nothing.
+use Rattle.std.specs.Prelude.{Option, Some, None}
 use mathlib.Core.Path.{◌≡◌, refl, sym, ap, ◌∙◌}
 use mathlib.Core.List.{List, [], ◌∷◌, ◌++◌}
 use mathlib.Core.Bool.{true, false}
@@ -9,14 +10,12 @@ use lib.Dec.{eqb}
 use lib.ListN.{length, get_or, set, drop, drop_of_length-le}
 use lib.Seq.{sets, drop-drop, get_or-drop}
 use borrow.Author.Tests.{ne_eqb}
-use Rattle.listing.specs.declared.column.Column.{Column}
-use Rattle.listing.specs.Column.{column_bytes, read_bytes, read_column}
-use Rattle.listing.proofs.Columns.{false≢true}
+use Rattle.listing.specs.Column.{column_bytes, read_bytes, read_column, column_number}
 use Rattle.listing.specs.Text.{line_feed, line_bytes, Read, read_as, behind, read_line, below, read_lines, fill}
 
 -- past the end of a text there is no line, and so many lines as there are none of
 pub line_past : (w : ℕ) → read_line w [] ≡ read_as [] false
-unfolding read_line read_column read_bytes behind
+unfolding read_line read_column read_bytes column_number behind
 line_past zero = refl
 line_past (suc w) = refl
 
@@ -35,24 +34,24 @@ module _ (s : List ℕ) (at w first : ℕ) where
   line_start ws = let z : at + column_bytes * 0 ≡ at = omega arith in rw (sub-zero, add-zero first, z)
 
   next : (ws : List ℕ) (k : ℕ) → k < w →
-      line_left ws k ≡ fill ws (first + k) (behind (read_column (drop (at + column_bytes * k) s)) (read_line (w - (k + 1)) (drop (at + column_bytes * (k + 1)) s)))
+      line_left ws k ≡ fill ws (first + k) (behind (column_number (read_column (drop (at + column_bytes * k) s))) (read_line (w - (k + 1)) (drop (at + column_bytes * (k + 1)) s)))
   unfolding line_left read_line
   next ws k h =
       let n : w - k ≡ suc (w - (k + 1)) = omega arith in
       let e : at + column_bytes * (k + 1) ≡ at + column_bytes * k + column_bytes = omega arith in
       rw (n, e, drop-drop column_bytes (at + column_bytes * k) s)
 
-  pub line_more : (ws : List ℕ) (k x : ℕ) {q : Read} → k < w → read_column (drop (at + column_bytes * k) s) ≡ Column.Number x
+  pub line_more : (ws : List ℕ) (k x : ℕ) {q : Read} → k < w → column_number (read_column (drop (at + column_bytes * k) s)) ≡ Some x
       → line_left ws k ≡ q → line_left (set ws (first + k) x) (k + 1) ≡ q
   unfolding line_left fill behind
   line_more ws k x h c i =
       let e : first + (k + 1) ≡ suc (first + k) = omega arith in
       rw e (sym (rw c at (next ws k h)) ∙ i)
 
-  pub line_fault : (ws : List ℕ) (k : ℕ) {c : Column} {q : Read} → k < w → read_column (drop (at + column_bytes * k) s) ≡ c
-      → ((rest : Read) → behind c rest ≡ read_as [] false) → line_left ws k ≡ q → read_as ws false ≡ q
-  unfolding fill
-  line_fault ws k h c none i = sym (ap (fill ws (first + k)) (none _)) ∙ sym (rw c at (next ws k h)) ∙ i
+  pub line_fault : (ws : List ℕ) (k : ℕ) {q : Read} → k < w → column_number (read_column (drop (at + column_bytes * k) s)) ≡ None
+      → line_left ws k ≡ q → read_as ws false ≡ q
+  unfolding fill behind
+  line_fault ws k h c i = sym (rw c at (next ws k h)) ∙ i
 
   pub line_end_lem : (ws : List ℕ) (k : ℕ) {q : Read} → w ≤ k → line_left ws k ≡ q → read_as ws (eqb (get_or s (at + column_bytes * k) 0) line_feed) ≡ q
   unfolding line_left read_line fill
@@ -67,17 +66,16 @@ module _ (s : List ℕ) (at w first : ℕ) where
   line_out ws h = sym (rw (drop_of_length-le s {i = at} (omega arith), line_past w))
 
 -- a good line has as many words as columns
-behind_width : (c : Column) (rest : Read) (w : ℕ) → (rest.good ≡ true → length rest.words ≡ w) → (behind c rest).good ≡ true
-    → length (behind c rest).words ≡ suc w
+behind_width : (number : Option ℕ) (rest : Read) (w : ℕ) → (rest.good ≡ true → length rest.words ≡ w) → (behind number rest).good ≡ true
+    → length (behind number rest).words ≡ suc w
 unfolding behind
-behind_width Column.Blank rest w h g = absurd (false≢true g)
-behind_width (Column.Number x) rest w h g = ap suc (h g)
-behind_width Column.Bad rest w h g = absurd (false≢true g)
+behind_width None rest w h g = cc
+behind_width (Some x) rest w h g = ap suc (h g)
 
 pub line_width : (w : ℕ) (s : List ℕ) → (read_line w s).good ≡ true → length (read_line w s).words ≡ w
 unfolding read_line
 line_width zero s g = refl
-line_width (suc w) s g = behind_width (read_column s) (read_line w (drop column_bytes s)) w (line_width w (drop column_bytes s)) g
+line_width (suc w) s g = behind_width (column_number (read_column s)) (read_line w (drop column_bytes s)) w (line_width w (drop column_bytes s)) g
 
 -- a run of stores, and another after it
 pub sets_append : (l : List ℕ) (i : ℕ) (xs ys : List ℕ) → sets l i (xs ++ ys) ≡ sets (sets l i xs) (i + length xs) ys

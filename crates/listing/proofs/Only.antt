@@ -1,24 +1,27 @@
 -- Only what is written is read: a column, a line, a run of lines and a text that are good are the writing of what they give. So a text that is
 -- laid out otherwise is refused. Assumes nothing.
+use Rattle.std.specs.Prelude.{Option, Some, None}
+use Rattle.std.specs.Bool.{then_some}
+use Rattle.std.specs.List.{fold}
+use Rattle.std.proofs.lemmas.Bool.{and_parts}
+use Rattle.std.proofs.lemmas.List.Sums.{fold-append}
 use mathlib.Core.Path.{◌≡◌, refl, sym, ap, ap₂, ◌∙◌, subst}
 use mathlib.Core.List.{List, [], ◌∷◌, ◌++◌}
 use mathlib.Core.Bool.{Bool, true, false, cond, ◌&&◌}
-use mathlib.Core.Option.{some}
 use Prim.Native.Nat.{ℕ, zero, suc, ◌+◌, ◌*◌, ◌-◌, ◌/◌, ◌%◌, ◌≤◌, ◌<◌}
 use native.Mathlib.Omega.{arith}
 use native.Mathlib.Decide.{dec_lt}
 use lib.Dec.{ltb, leb, eqb}
-use lib.ListN.{length, get_or, take, drop, length-append, take-append-drop}
+use lib.ListN.{length, get_or, take, drop, length-append}
 use lib.Seq.{take-suc, take-add, take_all, length-take-le, drop_at}
 use borrow.Author.Tests.{ltb-true, leb-true, eqb-true, ne_eqb}
 use Rattle.syntax.specs.Ast.{node_width}
 use Rattle.listing.specs.declared.column.Column.{Column}
 use Rattle.listing.specs.declared.text.Header.{Header}
-use Rattle.listing.specs.declared.text.Head.{Head}
-use Rattle.listing.specs.Column.{column_bytes, space, digit_zero, max_word, is_digit_byte, first, more, step, read_bytes, read_column, padding, padded, write_column}
+use Rattle.listing.specs.Column.{column_bytes, space, digit_zero, max_word, is_digit_byte, first, more, step, read_column, column_number, padding, padded, write_column}
 use Rattle.listing.specs.Text.{nodes_bound, list_words_bound, parameters_bound, line_feed, line_bytes, Read, read_as, behind, read_line, below, read_lines, header_width, list_width, name_width, header_of, nodes_at, list_at, names_at, text_bytes, within, headed, read_header, read_nodes, read_list, read_names, checked_head, read_text, TextTree, text_tree, read_tree}
 use Rattle.listing.specs.Output.{write_line, write_lines, header_words, write_tree, Words, Fits}
-use Rattle.listing.proofs.Columns.{false≢true, and_true, digit_bounds, read_short, steps, steps_append, read_steps}
+use Rattle.listing.proofs.Columns.{digit_bounds, read_short, column_folded}
 use Rattle.listing.proofs.Lines.{line_width}
 
 -- what n bytes are, by what they say: spaces alone, or a number, right-justified
@@ -42,8 +45,8 @@ said_more : (bs : List ℕ) (n x b : ℕ) (p : Bool) → (is_digit_byte b && ltb
     → Said (bs ++ (b ∷ [])) (suc n) (cond p (Column.Number (10 * x + (b - digit_zero))) Column.Bad)
 unfolding Said padded padding
 said_more bs n x b true e (m, s, h, l) =
-    let outer = and_true (is_digit_byte b && ltb 0 x) (leb (10 * x + (b - digit_zero)) max_word) e in
-    let inner = and_true (is_digit_byte b) (ltb 0 x) outer.0 in
+    let outer = and_parts (is_digit_byte b && ltb 0 x) (leb (10 * x + (b - digit_zero)) max_word) e in
+    let inner = and_parts (is_digit_byte b) (ltb 0 x) outer.0 in
     let k = digit_bounds b inner.0 in
     let pos : 0 < x = ltb-true 0 x inner.1 in
     let y : ℕ = 10 * x + (b - digit_zero) in
@@ -59,42 +62,34 @@ said_step bs n Column.Blank b h = said_first bs n b (eqb b space) (is_digit_byte
 said_step bs n (Column.Number x) b h = said_more bs n x b (is_digit_byte b && ltb 0 x && leb (10 * x + (b - digit_zero)) max_word) refl h
 said_step bs n Column.Bad b h = tt
 
-said_bytes : (n : ℕ) (s : List ℕ) → n ≤ length s → Said (take n s) n (steps Column.Blank (take n s))
-unfolding Said steps padded
+said_bytes : (n : ℕ) (s : List ℕ) → n ≤ length s → Said (take n s) n (fold step Column.Blank (take n s))
+unfolding Said padded
 said_bytes zero s h = refl
 said_bytes (suc n) s h =
-    rw (take-suc s n 0 h, steps_append Column.Blank (take n s) (get_or s n 0 ∷ []))
-    (said_step (take n s) n (steps Column.Blank (take n s)) (get_or s n 0) (said_bytes n s (omega arith)))
+    rw (take-suc s n 0 h, fold-append step Column.Blank (take n s) (get_or s n 0 ∷ []))
+    (said_step (take n s) n (fold step Column.Blank (take n s)) (get_or s n 0) (said_bytes n s (omega arith)))
 
--- which of the three a column is
-unfoldable numbered : Column → ℕ
-numbered Column.Blank = 0
-numbered (Column.Number x) = 1
-numbered Column.Bad = 0
-
-bad≢number : (x : ℕ) → Column.Bad ≡ Column.Number x → ⊥
-unfolding numbered
-bad≢number x e = let z : ◌≡◌ {A = ℕ} 0 1 = ap numbered e in omega arith
+-- a column that has a number is that number
+numbered : (c : Column) {x : ℕ} → column_number c ≡ Some x → c ≡ Column.Number x
+unfolding column_number
+numbered Column.Blank e = cc
+numbered (Column.Number y) e = cc
+numbered Column.Bad e = cc
 
 column_long : (s : List ℕ) (x : ℕ) → read_column s ≡ Column.Number x → column_bytes ≤ length s
 unfolding read_column
 column_long s x e = go (dec_lt (length s) column_bytes)
   where
     go : Dec (length s < column_bytes) → column_bytes ≤ length s
-    go (yes h) = absurd (bad≢number x (sym (read_short column_bytes Column.Blank s h) ∙ e))
+    go (yes h) = let bad = read_short column_bytes Column.Blank s h in cc
     go (no h) = omega arith
 
 pub column_only : (s : List ℕ) (x : ℕ) → read_column s ≡ Column.Number x → (take column_bytes s ≡ write_column x) × (x ≤ max_word)
-unfolding read_column write_column Said
+unfolding write_column Said
 column_only s x e =
     let long : column_bytes ≤ length s = column_long s x e in
-    let bs : List ℕ = take column_bytes s in
-    let n : length bs ≡ column_bytes = length-take-le column_bytes s long in
-    let r : steps Column.Blank bs ≡ Column.Number x =
-    sym (read_steps Column.Blank bs (drop column_bytes s))
-    ∙ ap₂ (λ (k : ℕ) (l : List ℕ). read_bytes k Column.Blank l) n (take-append-drop column_bytes s)
-    ∙ e in
-    number (rw r at (said_bytes column_bytes s long))
+    let n : length (take column_bytes s) ≡ column_bytes = length-take-le column_bytes s long in
+    number (rw (sym (column_folded s long refl) ∙ e) at (said_bytes column_bytes s long))
   where
     number : Said (take column_bytes s) column_bytes (Column.Number x) → (take column_bytes s ≡ padded 10 (x / 10) ++ ((digit_zero + x % 10) ∷ [])) × (x ≤ max_word)
     number (m, k, h, l) = let t : m ≡ 10 = omega arith in (rw t at h, l)
@@ -111,22 +106,21 @@ append_words (x ∷ xs) ys f g = cons_words x (xs ++ ys) (f 0) (append_words xs 
 abbrev LineOf : ℕ → List ℕ → List ℕ → Type 0
 LineOf w s ws = (take (line_bytes w) s ≡ write_line w ws) × Words ws
 
-behind_only : (w : ℕ) (s : List ℕ) (c : Column) (rest : Read) → read_column s ≡ c → (rest.good ≡ true → LineOf w (drop column_bytes s) rest.words)
-    → (behind c rest).good ≡ true → LineOf (suc w) s (behind c rest).words
+behind_only : (w : ℕ) (s : List ℕ) (number : Option ℕ) (rest : Read) → column_number (read_column s) ≡ number → (rest.good ≡ true → LineOf w (drop column_bytes s) rest.words)
+    → (behind number rest).good ≡ true → LineOf (suc w) s (behind number rest).words
 unfolding behind write_line
-behind_only w s Column.Blank rest e ih g = absurd (false≢true g)
-behind_only w s (Column.Number x) rest e ih g =
-    let column = column_only s x e in
+behind_only w s None rest e ih g = cc
+behind_only w s (Some x) rest e ih g =
+    let column = column_only s x (numbered (read_column s) e) in
     let line = ih g in
     let n : line_bytes (suc w) ≡ column_bytes + line_bytes w = omega arith in
     (rw n (take-add column_bytes (line_bytes w) s ∙ ap₂ ◌++◌ column.0 line.0), cons_words x rest.words column.1 line.1)
-behind_only w s Column.Bad rest e ih g = absurd (false≢true g)
 
 pub line_only : (w : ℕ) (s : List ℕ) → (read_line w s).good ≡ true → LineOf w s (read_line w s).words
 unfolding read_line write_line
-line_only zero [] g = absurd (false≢true g)
+line_only zero [] g = cc
 line_only zero (b ∷ s) g = (ap (λ (k : ℕ). k ∷ []) (eqb-true b line_feed g), λ i. omega arith)
-line_only (suc w) s g = behind_only w s (read_column s) (read_line w (drop column_bytes s)) refl (line_only w (drop column_bytes s)) g
+line_only (suc w) s g = behind_only w s (column_number (read_column s)) (read_line w (drop column_bytes s)) refl (line_only w (drop column_bytes s)) g
 
 -- a line looks at no word past its own
 line_prefix : (w : ℕ) (xs ys : List ℕ) → w ≤ length xs → write_line w (xs ++ ys) ≡ write_line w xs
@@ -154,7 +148,7 @@ below_only w n s line rest true e one width others g =
       append_words line.words rest.words here.1 there.1,
       omega (arith, length-append line.words rest.words, there.2),
     )
-below_only w n s line rest false e one width others g = absurd (false≢true (sym e ∙ g))
+below_only w n s line rest false e one width others g = cc
 
 pub lines_only : (w n : ℕ) (s : List ℕ) → (read_lines w n s).good ≡ true → LinesOf w n s (read_lines w n s).words
 unfolding read_lines write_lines below
@@ -170,15 +164,15 @@ pub record GoodHeader (s : List ℕ) (h : Header) : Type 0 where
   pub bounds : within h ≡ true
   pub size : length s ≡ text_bytes h
 
-pub header_only : (s : List ℕ) (h : Header) → read_header s ≡ Head.Good h → GoodHeader s h
+pub header_only : (s : List ℕ) (h : Header) → read_header s ≡ Some h → GoodHeader s h
 unfolding read_header headed
 header_only s h e = go (read_line header_width s).good (header_of (read_line header_width s).words) refl refl e
   where
     known : (line : Bool) (k : Header) (b : Bool) → (read_line header_width s).good ≡ line → header_of (read_line header_width s).words ≡ k
-        → (line && within k && eqb (length s) (text_bytes k)) ≡ b → cond b (Head.Good k) Head.Bad ≡ Head.Good h → GoodHeader s h
+        → (line && within k && eqb (length s) (text_bytes k)) ≡ b → then_some b k ≡ Some h → GoodHeader s h
     known line k true g w t e =
-        let outer = and_true (line && within k) (eqb (length s) (text_bytes k)) t in
-        let inner = and_true line (within k) outer.0 in
+        let outer = and_parts (line && within k) (eqb (length s) (text_bytes k)) t in
+        let inner = and_parts line (within k) outer.0 in
         let same : k ≡ h = cc in
         let size : length s ≡ text_bytes k = eqb-true (length s) (text_bytes k) outer.1 in
         record {
@@ -187,36 +181,36 @@ header_only s h e = go (read_line header_width s).good (header_of (read_line hea
           bounds = subst (λ (x : Header). within x ≡ true) same inner.1;
           size = size ∙ ap text_bytes same;
         }
-    known line k false g w t e = absurd (let z : ◌≡◌ {A = ℕ} 0 1 = cc in omega arith)
+    known line k false g w t e = cc
 
     go : (line : Bool) (k : Header) → (read_line header_width s).good ≡ line → header_of (read_line header_width s).words ≡ k
-        → cond (line && within k && eqb (length s) (text_bytes k)) (Head.Good k) Head.Bad ≡ Head.Good h → GoodHeader s h
+        → then_some (line && within k && eqb (length s) (text_bytes k)) k ≡ Some h → GoodHeader s h
     go line k g w e = known line k (line && within k && eqb (length s) (text_bytes k)) g w refl e
 
 -- what a good text shows
 pub record GoodText (s : List ℕ) (h : Header) : Type 0 where
-  pub head : read_header s ≡ Head.Good h
+  pub head : read_header s ≡ Some h
   pub header : GoodHeader s h
   pub nodes : (read_nodes h s).good ≡ true
   pub list : (read_list h s).good ≡ true
   pub names : (read_names h s).good ≡ true
 
-pub text_only : (s : List ℕ) (h : Header) → read_text s ≡ Head.Good h → GoodText s h
+pub text_only : (s : List ℕ) (h : Header) → read_text s ≡ Some h → GoodText s h
 unfolding read_text checked_head
 text_only s h e = go (read_header s) refl e
   where
-    tables : (k : Header) (b : Bool) → read_header s ≡ Head.Good k → ((read_nodes k s).good && (read_list k s).good && (read_names k s).good) ≡ b
-        → cond b (Head.Good k) Head.Bad ≡ Head.Good h → GoodText s h
+    tables : (k : Header) (b : Bool) → read_header s ≡ Some k → ((read_nodes k s).good && (read_list k s).good && (read_names k s).good) ≡ b
+        → then_some b k ≡ Some h → GoodText s h
     tables k true r t e =
         let same : k ≡ h = cc in
-        let outer = and_true ((read_nodes h s).good && (read_list h s).good) (read_names h s).good (rw same at t) in
-        let inner = and_true (read_nodes h s).good (read_list h s).good outer.0 in
-        record { head = r ∙ ap Head.Good same; header = header_only s h (r ∙ ap Head.Good same); nodes = inner.0; list = inner.1; names = outer.1 }
-    tables k false r t e = absurd (let z : ◌≡◌ {A = ℕ} 0 1 = cc in omega arith)
+        let outer = and_parts ((read_nodes h s).good && (read_list h s).good) (read_names h s).good (rw same at t) in
+        let inner = and_parts (read_nodes h s).good (read_list h s).good outer.0 in
+        record { head = r ∙ ap Some same; header = header_only s h (r ∙ ap Some same); nodes = inner.0; list = inner.1; names = outer.1 }
+    tables k false r t e = cc
 
-    go : (k : Head) → read_header s ≡ k → checked_head k s ≡ Head.Good h → GoodText s h
-    go Head.Bad r e = absurd (let z : ◌≡◌ {A = ℕ} 0 1 = cc in omega arith)
-    go (Head.Good k) r e = tables k ((read_nodes k s).good && (read_list k s).good && (read_names k s).good) r refl e
+    go : (k : Option Header) → read_header s ≡ k → checked_head k s ≡ Some h → GoodText s h
+    go None r e = cc
+    go (Some k) r e = tables k ((read_nodes k s).good && (read_list k s).good && (read_names k s).good) r refl e
 
 five : (ws : List ℕ) → length ws ≡ 5 → get_or ws 0 0 ∷ get_or ws 1 0 ∷ get_or ws 2 0 ∷ get_or ws 3 0 ∷ get_or ws 4 0 ∷ [] ≡ ws
 five [] h = absurd (omega arith)
@@ -282,8 +276,8 @@ module _ (s : List ℕ) (h : Header) (g : GoodText s h) where
   fits_only : Fits given
   unfolding header_of
   fits_only =
-      let outer = and_true (leb h.nodes nodes_bound && leb h.list list_words_bound) (leb h.names parameters_bound) g.header.bounds in
-      let inner = and_true (leb h.nodes nodes_bound) (leb h.list list_words_bound) outer.0 in
+      let outer = and_parts (leb h.nodes nodes_bound && leb h.list list_words_bound) (leb h.names parameters_bound) g.header.bounds in
+      let inner = and_parts (leb h.nodes nodes_bound) (leb h.list list_words_bound) outer.0 in
       let words = (line_only header_width s g.header.line).1 in
       let few : h.nodes ≤ nodes_bound = leb-true h.nodes nodes_bound inner.0 in
       let short : h.list ≤ list_words_bound = leb-true h.list list_words_bound inner.1 in
@@ -301,13 +295,13 @@ module _ (s : List ℕ) (h : Header) (g : GoodText s h) where
       }
 
 -- A text that gives a tree is that tree, written in columns, and the tree is within the bounds.
-pub tree_only : (s : List ℕ) (t : TextTree) → read_tree s ≡ some t → (s ≡ write_tree t) × Fits t
+pub tree_only : (s : List ℕ) (t : TextTree) → read_tree s ≡ Some t → (s ≡ write_tree t) × Fits t
 unfolding read_tree text_tree
 tree_only s t e = go (read_text s) refl e
   where
-    go : (k : Head) → read_text s ≡ k → text_tree k s ≡ some t → (s ≡ write_tree t) × Fits t
-    go Head.Bad r e = absurd (let z : ◌≡◌ {A = ℕ} 0 1 = cc in omega arith)
-    go (Head.Good h) r e =
+    go : (k : Option Header) → read_text s ≡ k → text_tree k s ≡ Some t → (s ≡ write_tree t) × Fits t
+    go None r e = cc
+    go (Some h) r e =
         let g : GoodText s h = text_only s h r in
         let same : given s h g ≡ t = cc in
         (written_only s h g ∙ ap write_tree same, subst Fits same (fits_only s h g))

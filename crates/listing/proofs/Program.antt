@@ -1,5 +1,7 @@
 -- What the program needs of a text that was read: the bytes of its tree in the buffers, and what is printed of a good text and of a bad one.
 -- Assumes nothing.
+use Rattle.std.specs.Prelude.{Some, None}
+use Rattle.std.proofs.lemmas.Bool.{and_parts}
 use mathlib.Core.Path.{◌≡◌, refl, sym, ap, ◌∙◌}
 use mathlib.Core.List.{List, [], ◌∷◌, ◌++◌, append_assoc}
 use mathlib.Core.Bool.{◌&&◌}
@@ -15,10 +17,8 @@ use Rattle.runtime.specs.Instruction.{instruction_width}
 use Rattle.runtime.specs.Value.{constant_width}
 use Rattle.lowering.specs.Result.{Lowered, lower}
 use Rattle.listing.specs.declared.text.Header.{Header}
-use Rattle.listing.specs.declared.text.Head.{Head}
 use Rattle.listing.specs.Text.{nodes_bound, list_words_bound, parameters_bound, Read, list_width, name_width, read_header, read_nodes, read_list, read_names, read_text, text_tree, read_tree, filled}
 use Rattle.listing.specs.Output.{instructions_bound, constants_bound, marks_bound, write_lines, printed, listing, lower_tree, print_tree, lowerlist}
-use Rattle.listing.proofs.Columns.{and_true}
 use Rattle.listing.proofs.Only.{text_only, nodes_only, list_only, names_only}
 
 bytes_append : (xs ys : List ℕ) → bytes_of (xs ++ ys) ≡ bytes_of xs ++ bytes_of ys
@@ -47,11 +47,11 @@ stored_bytes vs ws rest l =
     let split : bytes_of (sets vs 0 ws) ≡ bytes_of ws ++ bytes_of behind = ap bytes_of (sets-eq ws vs 0 (omega arith)) ∙ bytes_append ws behind in
     rw (split, append_assoc (bytes_of ws) (bytes_of behind) rest) (take_at (bytes_of ws) (bytes_of behind ++ rest) (word_bytes * length ws) (length_bytes ws))
 
-module _ (s : List ℕ) (h : Header) (e : read_text s ≡ Head.Good h) where
+module _ (s : List ℕ) (h : Header) (e : read_text s ≡ Some h) where
   pub text_bounds : (h.nodes ≤ nodes_bound) × (h.list ≤ list_words_bound) × (h.names ≤ parameters_bound)
   text_bounds =
-      let outer = and_true (leb h.nodes nodes_bound && leb h.list list_words_bound) (leb h.names parameters_bound) (text_only s h e).header.bounds in
-      let inner = and_true (leb h.nodes nodes_bound) (leb h.list list_words_bound) outer.0 in
+      let outer = and_parts (leb h.nodes nodes_bound && leb h.list list_words_bound) (leb h.names parameters_bound) (text_only s h e).header.bounds in
+      let inner = and_parts (leb h.nodes nodes_bound) (leb h.list list_words_bound) outer.0 in
       (leb-true h.nodes nodes_bound inner.0, leb-true h.list list_words_bound inner.1, leb-true h.names parameters_bound outer.1)
 
   -- what reading leaves in a buffer that has place for it: the bytes of the part's words
@@ -90,6 +90,6 @@ module _ (s : List ℕ) (h : Header) (e : read_text s ≡ Head.Good h) where
     lowered_prints a b c k p m e = ap listing (e ∙ rw (a, b, c, k, p, m)) ∙ sym good_prints
 
 -- a bad text prints number 1 and zeros, whatever the buffers hold
-pub bad_prints : (s code constants : List ℕ) → read_text s ≡ Head.Bad → lowerlist s ≡ printed (1 ∷ 0 ∷ 0 ∷ 0 ∷ 0 ∷ 0 ∷ 0 ∷ 0 ∷ []) code constants
+pub bad_prints : (s code constants : List ℕ) → read_text s ≡ None → lowerlist s ≡ printed (1 ∷ 0 ∷ 0 ∷ 0 ∷ 0 ∷ 0 ∷ 0 ∷ 0 ∷ []) code constants
 unfolding lowerlist read_tree text_tree print_tree printed write_lines
 bad_prints s code constants e = rw e

@@ -1,24 +1,21 @@
 -- What is written is read back: a line, a run of lines, and a whole tree. So no good text is refused. Assumes nothing.
-use mathlib.Core.Path.{◌≡◌, refl, sym, ap, ◌∙◌}
+use Rattle.std.specs.Prelude.{Some}
+use mathlib.Core.Path.{◌≡◌, refl, ap, ◌∙◌}
 use mathlib.Core.List.{List, [], ◌∷◌, ◌++◌, append_assoc, append-nil}
 use mathlib.Core.Bool.{true}
-use mathlib.Core.Option.{some}
 use Prim.Native.Nat.{ℕ, zero, suc, ◌+◌, ◌*◌, ◌/◌, ◌≤◌}
 use native.Mathlib.Omega.{arith}
 use native.Mathlib.Nat.{mul-zero}
 use lib.ListN.{length, take, drop, length-append, length-drop, take-append-drop}
 use lib.Seq.{drop_at, get_or-drop}
-use borrow.Author.Tests.{le-leb}
+use borrow.Author.Tests.{le-leb, eq-eqb}
 use Rattle.syntax.specs.Ast.{node_width}
-use Rattle.listing.specs.declared.column.Column.{Column}
 use Rattle.listing.specs.declared.text.Header.{Header}
-use Rattle.listing.specs.declared.text.Head.{Head}
 use Rattle.listing.specs.Column.{column_bytes, write_column}
-use Rattle.listing.specs.Text.{nodes_bound, list_words_bound, parameters_bound, line_bytes, read_as, behind, read_line, below, read_lines, header_width, list_width, name_width, header_of, nodes_at, list_at, names_at, text_bytes, within, read_header, read_nodes, read_list, read_names, read_text, TextTree, text_tree, read_tree}
+use Rattle.listing.specs.Text.{nodes_bound, list_words_bound, parameters_bound, line_bytes, read_as, behind, read_line, below, read_lines, header_width, list_width, name_width, header_of, nodes_at, list_at, names_at, text_bytes, headed, read_header, read_nodes, read_list, read_names, checked_head, read_text, TextTree, text_tree, read_tree}
 use Rattle.listing.specs.Output.{write_line, write_lines, header_words, write_tree, Words, Fits}
-use Rattle.listing.proofs.Columns.{column_back, length_column}
+use Rattle.listing.proofs.Columns.{number_back, length_column}
 use Rattle.listing.proofs.Written.{length_line, length_lines}
-use Rattle.listing.proofs.Texts.{header_good, text_good}
 
 drop_words : (n : ℕ) (ws : List ℕ) → Words ws → Words (drop n ws)
 drop_words n ws h i = omega (arith, get_or-drop n ws i 0, h (n + i))
@@ -29,8 +26,8 @@ line_back zero ws s l h = refl
 line_back (suc w) [] s l h = absurd (omega arith)
 line_back (suc w) (x ∷ ws) s l h =
     let rest : List ℕ = write_line w ws ++ s in
-    rw (append_assoc (write_column x) (write_line w ws) s, column_back x rest (h 0), drop_at (write_column x) rest column_bytes (length_column x))
-    (ap (behind (Column.Number x)) (line_back w ws s (omega arith) (λ i. h (suc i))))
+    rw (append_assoc (write_column x) (write_line w ws) s, number_back x rest (h 0), drop_at (write_column x) rest column_bytes (length_column x))
+    (ap (behind (Some x)) (line_back w ws s (omega arith) (λ i. h (suc i))))
 
 pub lines_back : (w n : ℕ) (ws s : List ℕ) → length ws ≡ w * n → Words ws → read_lines w n (write_lines w n ws ++ s) ≡ read_as ws true
 unfolding read_lines write_lines below
@@ -124,21 +121,19 @@ module _ (t : TextTree) where
         rw (parts, drop_at (header_part ++ nodes_part ++ list_part) names_part (names_at header) length_list, ← append-nil names_part)
         (lines_back name_width (length t.names) t.names [] (omega arith) f.names)
 
-    good_header : read_header (write_tree t) ≡ Head.Good header
-    unfolding header_of
+    good_header : read_header (write_tree t) ≡ Some header
+    unfolding read_header headed header_of
     good_header =
-        let g : (read_line header_width (write_tree t)).good ≡ true = rw header_read in
-        let h : header ≡ header_of (read_line header_width (write_tree t)).words = rw header_read in
         let nodes = le-leb count nodes_bound f.few_nodes in
         let list = le-leb (length t.list) list_words_bound f.few_words in
         let names = le-leb (length t.names) parameters_bound f.few_names in
-        let i : within header ≡ true = rw (nodes, list, names) in
-        sym (header_good (write_tree t) header g h i (ap length parts ∙ length_names))
+        rw (header_read, nodes, list, names, eq-eqb (length (write_tree t)) (text_bytes header) (ap length parts ∙ length_names))
 
-    good_text : read_text (write_tree t) ≡ Head.Good header
-    good_text = sym (text_good (write_tree t) header good_header {b = true} (rw (nodes_read, list_read, names_read)) refl)
+    good_text : read_text (write_tree t) ≡ Some header
+    unfolding read_text checked_head
+    good_text = rw (good_header, nodes_read, list_read, names_read)
 
     -- A tree that is written in columns is read back.
-    pub tree_back : read_tree (write_tree t) ≡ some t
+    pub tree_back : read_tree (write_tree t) ≡ Some t
     unfolding read_tree text_tree
     tree_back = rw (good_text, nodes_read, list_read, names_read)

@@ -1,17 +1,18 @@
--- The laws of a text's header: what it takes to be good. Assumes nothing.
-use mathlib.Core.Path.{◌≡◌, sym, ap, ◌∙◌}
+-- The laws of a text's header and of its parts: what is read, by its words and its bytes. Assumes nothing.
+use Rattle.std.specs.Prelude.{Some}
+use Rattle.std.specs.Bool.{then_some}
+use mathlib.Core.Path.{◌≡◌, refl, sym, ap, ◌∙◌}
 use mathlib.Core.List.{List, ◌++◌, append-nil}
 use mathlib.Core.Bool.{Bool, true, false, ◌&&◌}
 use Prim.Native.Nat.{ℕ, ◌+◌, ◌*◌, ◌≤◌, ◌<◌}
 use native.Mathlib.Omega.{arith}
 use lib.ListN.{length, get_or, drop, drop_of_length-le}
 use lib.Seq.{sets, sets-eq}
-use borrow.Author.Tests.{eq-eqb, ne_eqb}
+use lib.Dec.{eqb}
 use Rattle.words.specs.Words.{words, tail}
 use Rattle.words.proofs.Words.{bytes_words}
 use Rattle.listing.specs.declared.text.Header.{Header}
-use Rattle.listing.specs.declared.text.Head.{Head}
-use Rattle.listing.specs.Text.{Read, read_as, read_line, fill, header_width, header_of, within, text_bytes, headed, read_header, read_nodes, read_list, read_names, checked_head, read_text, filled}
+use Rattle.listing.specs.Text.{Read, read_as, read_line, fill, header_width, header_of, within, text_bytes, headed, read_header, filled}
 use Rattle.listing.proofs.Lines.{line_width}
 
 -- a run of stores over all of a list
@@ -21,35 +22,23 @@ sets_all l vs e =
     let over : length l ≤ 0 + length vs = omega arith in
     sets-eq vs l 0 fits ∙ ap (λ (x : List ℕ). vs ++ x) (drop_of_length-le l over) ∙ append-nil vs
 
-module _ (s : List ℕ) where
-  -- the line of a header, read into a buffer for it
-  module _ (zs vs : List ℕ) (b : Bool) (e : read_as vs b ≡ fill zs (header_width * 0) (read_line header_width (drop 0 s))) where
-    pub header_line : (read_line header_width s).good ≡ b
-    unfolding fill
-    header_line = sym (ap (λ (r : Read). r.good) e)
+-- the line of a header, read into a buffer for it, and what the header is
+module _ (s zs vs : List ℕ) (b : Bool) (e : read_as vs b ≡ fill zs (header_width * 0) (read_line header_width (drop 0 s))) where
+  header_line : (read_line header_width s).good ≡ b
+  unfolding fill
+  header_line = sym (ap (λ (r : Read). r.good) e)
 
-    pub header_words_lem : length zs ≡ header_width → b ≡ true → vs ≡ (read_line header_width s).words
-    unfolding fill
-    header_words_lem n g =
-        let w : length (read_line header_width s).words ≡ header_width = line_width header_width s (header_line ∙ g) in
-        ap (λ (r : Read). r.words) e ∙ sets_all zs (read_line header_width s).words (n ∙ sym w)
+  header_words_lem : length zs ≡ header_width → b ≡ true → vs ≡ (read_line header_width s).words
+  unfolding fill
+  header_words_lem n g =
+      let w : length (read_line header_width s).words ≡ header_width = line_width header_width s (header_line ∙ g) in
+      ap (λ (r : Read). r.words) e ∙ sets_all zs (read_line header_width s).words (n ∙ sym w)
 
-  pub header_bad : (read_line header_width s).good ≡ false → Head.Bad ≡ read_header s
-  unfolding read_header headed
-  header_bad g = rw g
-
-  module _ (h : Header) (g : (read_line header_width s).good ≡ true) (e : h ≡ header_of (read_line header_width s).words) where
-    pub header_past : within h ≡ false → Head.Bad ≡ read_header s
-    unfolding read_header headed
-    header_past i = rw (g, ← e, i)
-
-    pub header_long : within h ≡ true → (length s ≡ text_bytes h → ⊥) → Head.Bad ≡ read_header s
-    unfolding read_header headed
-    header_long i n = rw (g, ← e, i, ne_eqb (length s) (text_bytes h) n)
-
-    pub header_good : within h ≡ true → length s ≡ text_bytes h → Head.Good h ≡ read_header s
-    unfolding read_header headed
-    header_good i n = rw (g, ← e, i, eq-eqb (length s) (text_bytes h) n)
+pub header_read : (s zs vs : List ℕ) (b : Bool) → read_as vs b ≡ fill zs (header_width * 0) (read_line header_width (drop 0 s)) → length zs ≡ header_width
+    → {h : Header} → h ≡ header_of vs → then_some (b && within h && eqb (length s) (text_bytes h)) h ≡ read_header s
+unfolding read_header headed
+header_read s zs vs true e n is = rw (header_line s zs vs true e, ← header_words_lem s zs vs true e n refl, ← is)
+header_read s zs vs false e n is = rw (header_line s zs vs false e)
 
 -- what is read into a buffer from its start on, by its parts
 module _ (vs ws : List ℕ) (b : Bool) (r : Read) (e : read_as vs b ≡ fill ws 0 r) where
@@ -61,28 +50,8 @@ module _ (vs ws : List ℕ) (b : Bool) (r : Read) (e : read_as vs b ≡ fill ws 
   unfolding fill
   fill_words = ap (λ (x : Read). x.words) e
 
--- a text of which the header is good
-module _ (s : List ℕ) (h : Header) (e : read_header s ≡ Head.Good h) where
-  module _ {b : Bool} (g : b ≡ ((read_nodes h s).good && (read_list h s).good && (read_names h s).good)) where
-    pub text_good : b ≡ true → Head.Good h ≡ read_text s
-    unfolding read_text checked_head
-    text_good t = rw (e, ← g, t)
-
-    pub text_fault : b ≡ false → Head.Bad ≡ read_text s
-    unfolding read_text checked_head
-    text_fault t = rw (e, ← g, t)
-
-  pub text_filled : (reads : Header → List ℕ → Read) (vs bytes : List ℕ) → ((i : ℕ) → get_or vs i 0 < 256)
-      → words vs ≡ sets (words bytes) 0 (reads h s).words → tail vs ≡ tail bytes → vs ≡ filled reads (read_header s) s bytes
-  unfolding filled
-  text_filled reads vs bytes f w r = rw e (sym (bytes_words vs f) ∙ rw (w, r))
-
--- and of which it is bad
-module _ (s : List ℕ) (e : read_header s ≡ Head.Bad) where
-  pub text_bad : Head.Bad ≡ read_text s
-  unfolding read_text checked_head
-  text_bad = rw e
-
-  pub text_unread : (reads : Header → List ℕ → Read) (bytes : List ℕ) → bytes ≡ filled reads (read_header s) s bytes
-  unfolding filled
-  text_unread reads bytes = rw e
+-- one part of a text, read into a buffer, by its bytes
+pub part_filled : (reads : Header → List ℕ → Read) (h : Header) (s vs bytes : List ℕ) {b : Bool} → ((i : ℕ) → get_or vs i 0 < 256)
+    → read_as (words vs) b ≡ fill (words bytes) 0 (reads h s) → tail vs ≡ tail bytes → vs ≡ filled reads (Some h) s bytes
+unfolding filled
+part_filled reads h s vs bytes {b} f w r = sym (bytes_words vs f) ∙ rw (fill_words (words vs) (words bytes) b (reads h s) w, r)

@@ -1,5 +1,5 @@
 -- "numbers right-justified in columns of 11 [..]; no leading zeros, nothing above 4294967295": the bytes of a column, read and written.
-use Rattle.std.specs.Prelude.{ℕ, zero, suc, ◌+◌, ◌*◌, ◌-◌, ◌/◌, ◌%◌, List, [], ◌∷◌, ◌++◌, Bool, cond, ◌&&◌, ltb, leb, eqb}
+use Rattle.std.specs.Prelude.{ℕ, zero, suc, ◌+◌, ◌*◌, ◌-◌, ◌/◌, ◌%◌, List, [], ◌∷◌, ◌++◌, Bool, cond, ◌&&◌, ltb, leb, eqb, Option, Some, None}
 use Rattle.listing.specs.declared.column.Column.{Column}
 
 -- "columns of 11"
@@ -44,6 +44,12 @@ read_bytes (suc n) c (b ∷ s) = read_bytes n (step c b) s
 -- the column at the start of s: a number, or `Bad`; spaces alone are no column
 unfoldable pub read_column : List ℕ → Column
 read_column s = read_bytes column_bytes Column.Blank s
+
+-- the number of a column; none if it has none
+unfoldable pub column_number : Column → Option ℕ
+column_number Column.Blank = None
+column_number (Column.Number x) = Some x
+column_number Column.Bad = None
 
 -- the last digit of what is left of a number; a space where nothing is left
 unfoldable pub padding : ℕ → ℕ

@@ -1,6 +1,6 @@
 -- "Output: the eight result numbers, instructions, constants": what is printed of what lowering leaves, and the program, from text to output.
-use Rattle.std.specs.Prelude.{ℕ, zero, suc, ◌+◌, ◌*◌, ◌/◌, ◌≤◌, ◌≡◌, List, [], ◌∷◌, ◌++◌, length, get_or, drop, replicate}
-use Rattle.std.proofs.Math.Option.{Option, none, some}
+use Rattle.std.specs.Prelude.{ℕ, zero, suc, ◌+◌, ◌*◌, ◌/◌, ◌≤◌, ◌≡◌, List, [], ◌∷◌, ◌++◌, length, get_or, drop, replicate, Option, Some, None}
+use Rattle.std.proofs.lemmas.List.Edits.{sets}
 use Rattle.diagnostics.specs.declared.Refusal.{Refusal}
 use Rattle.diagnostics.specs.Refusal.{refusal_number}
 use Rattle.words.specs.Words.{bytes_of}
@@ -29,6 +29,12 @@ unfoldable pub printed : List ℕ → List ℕ → List ℕ → List ℕ
 printed numbers code constants =
     write_line result_width numbers ++ write_lines instruction_width (get_or numbers 4 0) code ++ write_lines constant_width (get_or numbers 5 0) constants
 
+-- What printing leaves: a buffer that had the bytes `out` has `out'`, the printed bytes from its start on, those past its end left out; and `size` comes back.
+pub record Leaves (bytes out out' : List ℕ) (size : ℕ) : Type 0 where
+  pub stored : out' ≡ sets out 0 bytes
+  -- how many bytes were to be printed, whether the buffer holds them or not
+  pub count : size ≡ length bytes
+
 unfoldable pub listing : Lowered → List ℕ
 listing l = printed (numbers_of l.result) l.code l.constants
 
@@ -53,8 +59,8 @@ lower_tree t =
 
 -- "Text laid out otherwise or past them prints number 1 and zeros."
 unfoldable pub print_tree : Option TextTree → List ℕ
-print_tree none = printed (numbers_of (result (refusal_number Refusal.Size) 0 0 0 0 0 0 0)) [] []
-print_tree (some t) = listing (lower_tree t)
+print_tree None = printed (numbers_of (result (refusal_number Refusal.Size) 0 0 0 0 0 0 0)) [] []
+print_tree (Some t) = listing (lower_tree t)
 
 -- the program: from the bytes of its standard input to those of its standard output
 unfoldable pub lowerlist : List ℕ → List ℕ

@@ -1,14 +1,12 @@
 -- "one record a line, each line ended by a line feed; [..] nothing after the last line. Header: mode, root, nodes, list words, parameters. Then nodes, list
 -- words, parameters. Bounds: 512 nodes, 512 list words, 256 parameters": a text read, line by line, and the tree that it gives.
-use Rattle.std.specs.Prelude.{ℕ, zero, suc, ◌+◌, ◌*◌, List, [], ◌∷◌, ◌++◌, Bool, true, false, cond, ◌&&◌, leb, eqb, length, get_or, drop}
-use Rattle.std.proofs.Math.Option.{Option, none, some}
+use Rattle.std.specs.Prelude.{ℕ, zero, suc, ◌+◌, ◌*◌, List, [], ◌∷◌, ◌++◌, Bool, true, false, cond, ◌&&◌, leb, eqb, length, get_or, drop, Option, Some, None}
+use Rattle.std.specs.Bool.{then_some}
 use Rattle.std.proofs.lemmas.List.Edits.{sets}
 use Rattle.words.specs.Words.{words, tail, bytes_of}
 use Rattle.syntax.specs.Ast.{node_width}
-use Rattle.listing.specs.declared.column.Column.{Column}
 use Rattle.listing.specs.declared.text.Header.{Header}
-use Rattle.listing.specs.declared.text.Head.{Head}
-use Rattle.listing.specs.Column.{column_bytes, read_column}
+use Rattle.listing.specs.Column.{column_bytes, read_column, column_number}
 
 abbrev pub line_feed : ℕ
 line_feed = 10
@@ -25,16 +23,15 @@ pub record Read : Type 0 where
 abbrev pub read_as : List ℕ → Bool → Read
 read_as ws good = record { words = ws; good = good }
 
--- a column, and what follows it in its line
-unfoldable pub behind : Column → Read → Read
-behind Column.Blank rest = read_as [] false
-behind (Column.Number x) rest = read_as (x ∷ rest.words) rest.good
-behind Column.Bad rest = read_as [] false
+-- a column's number, and what follows it in its line; no number is a fault
+unfoldable pub behind : Option ℕ → Read → Read
+behind None rest = read_as [] false
+behind (Some x) rest = read_as (x ∷ rest.words) rest.good
 
 -- the line of w columns at the start of s: its columns, one after the other, and a line feed
 unfoldable pub read_line : ℕ → List ℕ → Read
 read_line zero s = read_as [] (eqb (get_or s 0 0) line_feed)
-read_line (suc w) s = behind (read_column s) (read_line w (drop column_bytes s))
+read_line (suc w) s = behind (column_number (read_column s)) (read_line w (drop column_bytes s))
 
 -- a line, and the lines below it
 unfoldable pub below : Read → Read → Read
@@ -89,13 +86,10 @@ abbrev pub within : Header → Bool
 within h = leb h.nodes nodes_bound && leb h.list list_words_bound && leb h.names parameters_bound
 
 -- a header in its bounds, with a text as long as it says: "nothing after the last line"
-unfoldable pub headed : Read → ℕ → Head
-headed r size =
-    cond (r.good && within (header_of r.words) && eqb size (text_bytes (header_of r.words)))
-    (Head.Good (header_of r.words))
-    Head.Bad
+unfoldable pub headed : Read → ℕ → Option Header
+headed r size = then_some (r.good && within (header_of r.words) && eqb size (text_bytes (header_of r.words))) (header_of r.words)
 
-unfoldable pub read_header : List ℕ → Head
+unfoldable pub read_header : List ℕ → Option Header
 read_header s = headed (read_line header_width s) (length s)
 
 unfoldable pub read_nodes : Header → List ℕ → Read
@@ -108,11 +102,11 @@ unfoldable pub read_names : Header → List ℕ → Read
 read_names h s = read_lines name_width h.names (drop (names_at h) s)
 
 -- the header of a text all of whose lines are good
-unfoldable pub checked_head : Head → List ℕ → Head
-checked_head Head.Bad s = Head.Bad
-checked_head (Head.Good h) s = cond ((read_nodes h s).good && (read_list h s).good && (read_names h s).good) (Head.Good h) Head.Bad
+unfoldable pub checked_head : Option Header → List ℕ → Option Header
+checked_head None s = None
+checked_head (Some h) s = then_some ((read_nodes h s).good && (read_list h s).good && (read_names h s).good) h
 
-unfoldable pub read_text : List ℕ → Head
+unfoldable pub read_text : List ℕ → Option Header
 read_text s = checked_head (read_header s) s
 
 -- the tree of a text: mode and root, and the words of its nodes, of its list and of its parameters' names
@@ -123,10 +117,10 @@ pub record TextTree : Type 0 where
   pub list : List ℕ
   pub names : List ℕ
 
-unfoldable pub text_tree : Head → List ℕ → Option TextTree
-text_tree Head.Bad s = none
-text_tree (Head.Good h) s =
-    some (record {
+unfoldable pub text_tree : Option Header → List ℕ → Option TextTree
+text_tree None s = None
+text_tree (Some h) s =
+    Some (record {
       mode = h.mode;
       root = h.root;
       nodes = (read_nodes h s).words;
@@ -143,6 +137,6 @@ unfoldable pub fill : List ℕ → ℕ → Read → Read
 fill ws at r = read_as (sets ws at r.words) r.good
 
 -- what a text leaves in a buffer, by its bytes: the words of one part at its start, up to the first fault; nothing where the header is bad
-unfoldable pub filled : (Header → List ℕ → Read) → Head → List ℕ → List ℕ → List ℕ
-filled reads Head.Bad s bytes = bytes
-filled reads (Head.Good h) s bytes = bytes_of (sets (words bytes) 0 (reads h s).words) ++ tail bytes
+unfoldable pub filled : (Header → List ℕ → Read) → Option Header → List ℕ → List ℕ → List ℕ
+filled reads None s bytes = bytes
+filled reads (Some h) s bytes = bytes_of (sets (words bytes) 0 (reads h s).words) ++ tail bytes

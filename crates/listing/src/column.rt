@@ -1,14 +1,28 @@
 // Columns of 11 bytes: spaces, then a number, right-justified.
 ghost use Rattle.std.specs.Prelude.{◌≡◌, drop, set};
+ghost use Rattle.std.specs.List.{fold};
 ghost use Rattle.std.proofs.lemmas.List.Edits.{sets};
-ghost use Rattle.listing.specs.Column.{is_digit_byte, first, more, step, read_column, padding, write_column};
+ghost use Rattle.listing.specs.Column.{first, more, step, read_column, column_number, padding, write_column};
 
 // What the bytes of a column say so far: nothing but spaces, a number, or no column.
 #[derive(Drop)]
-pub enum Column {
+enum Column {
     Blank,
     Number(u32),
     Bad,
+}
+
+impl Column {
+    // The number, if it is one.
+    #[tactic(auto, unfolding(crate::specs::Column::column_number))]
+    fn number(self) -> Option<u32>
+        ensures { result ≡ column_number self }
+    {
+        match self {
+            Column::Number(x) => Some(x),
+            Column::Blank | Column::Bad => None,
+        }
+    }
 }
 
 pub const COLUMN_BYTES: usize = 11;
@@ -17,15 +31,7 @@ const SPACE: u8 = 32;
 
 const DIGIT_ZERO: u8 = 48;
 
-const DIGIT_NINE: u8 = 57;
-
 const MAX_WORD: u64 = 4294967295;
-
-fn is_digit(b: u8) -> bool
-    ensures { result ≡ is_digit_byte b }
-{
-    (DIGIT_ZERO <= b) & (b <= DIGIT_NINE)
-}
 
 // A byte after spaces alone.
 #[tactic(auto, unfolding(crate::specs::Column::first))]
@@ -35,7 +41,7 @@ fn first(b: u8) -> Column
     if b == SPACE {
         return Column::Blank;
     }
-    if is_digit(b) {
+    if b.is_ascii_digit() {
         Column::Number((b - DIGIT_ZERO) as u32)
     } else {
         Column::Bad
@@ -47,10 +53,7 @@ fn first(b: u8) -> Column
 fn more(x: u32, b: u8) -> Column
     ensures { result ≡ more x b }
 {
-    if !is_digit(b) {
-        return Column::Bad;
-    }
-    if x == 0 {
+    if !b.is_ascii_digit() || x == 0 {
         return Column::Bad;
     }
     let y = 10 * (x as u64) + ((b - DIGIT_ZERO) as u64);
@@ -73,26 +76,23 @@ fn step(c: Column, b: u8) -> Column
     }
 }
 
-// The column at `at`; past the end of the text there is none.
-pub fn read_column(s: &[u8], at: usize) -> Column
-    ensures { result ≡ read_column (drop at s.now) }
+// What bytes say, one after the other.
+fn said(bytes: &[u8]) -> Column
+    ensures { result ≡ fold step Column.Blank bytes.now }
 {
-    if s.len() < at {
-        return Column::Bad;
-    }
-    if s.len() - at < COLUMN_BYTES {
-        return Column::Bad;
-    }
-    let mut c = Column::Blank;
-    let mut k = 0;
-    while k < COLUMN_BYTES {
-        c = step(c, s[at + k]);
-        k += 1;
-    }
-    c
+    bytes.iter().fold(Column::Blank, |c, b| step(c, *b))
 }
 
-// Sets the byte at i to b; past the end nothing changes.
+// The number in the column at `at`; none where there is no such column, or past the end of the text.
+#[tactic(auto, using(crate::proofs::Columns::column_short, crate::proofs::Columns::column_folded, std::proofs::lemmas::Slice::between_to_end))]
+pub fn read_column(s: &[u8], at: usize) -> Option<u32>
+    ensures { result ≡ column_number (read_column (drop at s.now)) }
+{
+    let column = s.get(at..)?.first_chunk::<COLUMN_BYTES>()?;
+    said(column).number()
+}
+
+// Sets the byte at i to b; past the end nothing changes. By index: of what `get_mut` lends, nothing says what the slice ends as.
 pub fn put(s: &mut [u8], i: usize, b: u8)
     ensures { s.new ≡ set s.old i b }
 {
@@ -114,17 +114,16 @@ fn padding(x: u32) -> u8
 }
 
 // Writes the column of x, the last digit first; bytes past the end are left out.
+#[tactic(auto, using(words::proofs::Records::sets_out, crate::proofs::Columns::padded_more, crate::proofs::Columns::column_last), unfolding(crate::specs::Column::padded))]
 pub fn write_column(s: &mut [u8], at: usize, x: u32)
     ensures { s.new ≡ sets s.old at (write_column x) }
 {
     if at <= s.len() {
-        let mut k = COLUMN_BYTES - 1;
-        put(s, at + k, DIGIT_ZERO + (x % 10) as u8);
+        put(s, at + (COLUMN_BYTES - 1), DIGIT_ZERO + (x % 10) as u8);
         let mut rest = x / 10;
-        while 0 < k {
-            k -= 1;
+        for k in (0..COLUMN_BYTES - 1).rev() {
             put(s, at + k, padding(rest));
-            rest = rest / 10;
+            rest /= 10;
         }
     }
 }

@@ -1,15 +1,15 @@
 // What is printed: lines of words, and the listing of what lowering leaves.
-ghost use Rattle.std.specs.Prelude.{◌≡◌, ◌*◌, length, drop};
+ghost use Rattle.std.specs.Prelude.{◌≡◌, ◌*◌, drop};
 ghost use Rattle.std.proofs.lemmas.List.Edits.{sets};
 ghost use Rattle.words.specs.Words.{words};
-ghost use Rattle.listing.specs.Output.{write_line, write_lines, printed};
+ghost use Rattle.listing.specs.Output.{write_line, write_lines, printed, Leaves};
 
 use crate::column::{COLUMN_BYTES, put, write_column};
 use crate::text::LINE_FEED;
 use lowering::RESULT_WORDS;
 use runtime::instruction::INSTRUCTION_WORDS;
 use runtime::value::CONSTANT_WORDS;
-use words::{put_words, word};
+use words::{WORD_BYTES, put_words, word};
 
 // The bytes of the lines of a result, of an instruction and of a constant.
 pub const RESULT_LINE: usize = COLUMN_BYTES * RESULT_WORDS + 1;
@@ -19,54 +19,47 @@ pub const INSTRUCTION_LINE: usize = COLUMN_BYTES * INSTRUCTION_WORDS + 1;
 pub const CONSTANT_LINE: usize = COLUMN_BYTES * CONSTANT_WORDS + 1;
 
 // Writes record `place` of `width` words as a line that begins at `at`; bytes past the end are left out.
+#[tactic(auto, using(words::proofs::Records::sets_out, crate::proofs::Written::write_line_start, crate::proofs::Written::write_line_more, crate::proofs::Written::write_line_end))]
 fn write_line(out: &mut [u8], at: usize, width: u8, s: &[u8], place: u32)
     ensures { out.new ≡ sets out.old at (write_line width (drop (width * place) (words s.now))) }
 {
     if at <= out.len() {
         let first = (width as usize) * (place as usize);
-        let mut k: u8 = 0;
-        while k < width {
-            write_column(
-                out,
-                at + COLUMN_BYTES * (k as usize),
-                word(s, first + (k as usize)),
-            );
-            k += 1;
+        for k in 0..width as usize {
+            write_column(out, at + COLUMN_BYTES * k, word(s, first + k));
         }
         put(out, at + COLUMN_BYTES * (width as usize), LINE_FEED);
     }
 }
 
 // Writes the first `count` records of `width` words, each as a line; the first begins at `at`.
+#[tactic(auto, using(words::proofs::Records::sets_out, crate::proofs::Written::write_lines_start, crate::proofs::Written::write_lines_more, crate::proofs::Written::write_lines_end))]
 pub fn write_lines(out: &mut [u8], at: usize, width: u8, count: u32, s: &[u8])
     ensures { out.new ≡ sets out.old at (write_lines width count (words s.now)) }
 {
     if at <= out.len() {
         let size = COLUMN_BYTES * (width as usize) + 1;
-        let mut i: u32 = 0;
-        while i < count {
+        for i in 0..count {
             write_line(out, at + size * (i as usize), width, s, i);
-            i += 1;
         }
     }
 }
 
 // Prints the eight numbers of a result, and as many instructions and constants as the fifth and the sixth of them say. The answer is how many bytes
 // that is; those past the end of `out` are left out.
+#[tactic(auto, using(words::proofs::Words::length_words, crate::proofs::Texts::sets_all, crate::proofs::Written::printed_parts, crate::proofs::Written::printed_length))]
 pub fn write_listing(
     out: &mut [u8],
     numbers: &[u32; RESULT_WORDS],
     code: &[u8],
     constants: &[u8],
 ) -> usize
-    ensures bytes { out.new
-        ≡ sets out.old 0 (printed numbers.now (words code.now) (words constants.now)) }
-    ensures length { result ≡ length (printed numbers.now (words code.now) (words constants.now)) }
+    ensures { Leaves (printed numbers.now (words code.now) (words constants.now)) out.old out.new result }
 {
-    let mut line = [0u8; 4 * RESULT_WORDS];
+    let mut line = [0u8; WORD_BYTES * RESULT_WORDS];
     put_words(&mut line, 0, numbers);
     write_line(out, 0, RESULT_WORDS as u8, &line, 0);
-    let instructions = word(&line, 4);
+    let instructions = numbers[4];
     write_lines(
         out,
         RESULT_LINE,
@@ -75,7 +68,7 @@ pub fn write_listing(
         code,
     );
     let at = RESULT_LINE + INSTRUCTION_LINE * (instructions as usize);
-    let pooled = word(&line, 5);
+    let pooled = numbers[5];
     write_lines(out, at, CONSTANT_WORDS as u8, pooled, constants);
     at + CONSTANT_LINE * (pooled as usize)
 }

@@ -1,8 +1,8 @@
 -- What the program prints: of a tree in slices, by what lowering leaves; of a good text, by the bytes that reading leaves; that its output buffer holds
 -- every listing; and that a text cut after the length of the longest good one prints what the whole text does. Assumes nothing.
+use Rattle.std.specs.Prelude.{Option, Some, None}
 use mathlib.Core.Path.{◌≡◌, refl, sym, ap, ◌∙◌}
 use mathlib.Core.List.{List, [], ◌∷◌, ◌++◌}
-use mathlib.Core.Option.{none}
 use Prim.Native.Nat.{ℕ, zero, suc, ◌+◌, ◌*◌, ◌≤◌, ◌<◌}
 use native.Mathlib.Omega.{arith}
 use native.Mathlib.Nat.{mul-le-mul_left, mul-div_right}
@@ -21,7 +21,6 @@ use Rattle.result.specs.Numbers.{numbers}
 use Rattle.codegen.specs.Laws.{Bytes}
 use Rattle.codegen.proofs.Width.{exact_words}
 use Rattle.listing.specs.declared.text.Header.{Header}
-use Rattle.listing.specs.declared.text.Head.{Head}
 use Rattle.listing.specs.Text.{line_bytes, nodes_bound, list_words_bound, parameters_bound, longest_text, list_width, name_width, read_header, read_nodes, read_list, read_names, read_text, filled}
 use Rattle.listing.specs.Output.{result_width, instructions_bound, constants_bound, marks_bound, longest_listing, printed, listing, print_tree, lowerlist}
 use Rattle.listing.proofs.Written.{printed_length}
@@ -72,7 +71,7 @@ module _ (nodes : List ℕ) (bytes : Bytes nodes) (root mode : ℕ) (list names 
 
 -- ---- a text
 
-module _ (s : List ℕ) (h : Header) (e : read_text s ≡ Head.Good h) where
+module _ (s : List ℕ) (h : Header) (e : read_text s ≡ Some h) where
   -- the tree that the header tells of has place in buffers of a, b and c bytes
   pub record HasPlace (a b c : ℕ) : Type 0 where
     pub nodes_fit : nodes_bytes h ≤ a
@@ -101,7 +100,7 @@ module _ (s : List ℕ) (h : Header) (e : read_text s ≡ Head.Good h) where
       let third = names_bytes_lem s h e _ c (room name_width h.names parameters_bound t.2) in
       lowered_prints s h e first second third refl refl refl refl
 
-pub bad_listing : (s : List ℕ) → read_text s ≡ Head.Bad → print_tree none ≡ lowerlist s
+pub bad_listing : (s : List ℕ) → read_text s ≡ None → print_tree None ≡ lowerlist s
 unfolding print_tree
 bad_listing s e = sym (bad_prints s [] [] e)
 
@@ -123,9 +122,9 @@ zeros_capacity w h n = rw (length-replicate {A = ℕ} (w * n) 0) (mul-div_right 
 pub length_lowerlist : (s : List ℕ) → length (lowerlist s) ≤ longest_listing
 length_lowerlist s = go (read_text s) refl
   where
-    go : (head : Head) → read_text s ≡ head → length (lowerlist s) ≤ longest_listing
-    go Head.Bad e = rw (bad_prints s [] [] e) (omega (arith, printed_length (1 ∷ 0 ∷ 0 ∷ 0 ∷ 0 ∷ 0 ∷ 0 ∷ 0 ∷ []) [] []))
-    go (Head.Good h) e =
+    go : (head : Option Header) → read_text s ≡ head → length (lowerlist s) ≤ longest_listing
+    go None e = rw (bad_prints s [] [] e) (omega (arith, printed_length (1 ∷ 0 ∷ 0 ∷ 0 ∷ 0 ∷ 0 ∷ 0 ∷ 0 ∷ []) [] []))
+    go (Some h) e =
         rw (good_prints s h e)
         (omega (
           arith,
@@ -148,12 +147,12 @@ listed s out e f size =
 
 -- ---- the input
 
-pub long_bad : (s : List ℕ) → longest_text < length s → read_text s ≡ Head.Bad
+pub long_bad : (s : List ℕ) → longest_text < length s → read_text s ≡ None
 long_bad s l = go (read_text s) refl
   where
-    go : (head : Head) → read_text s ≡ head → read_text s ≡ Head.Bad
-    go Head.Bad e = e
-    go (Head.Good h) e = let t = text_bounds s h e in absurd (omega (arith, t.0, t.1, t.2, (text_only s h e).header.size))
+    go : (head : Option Header) → read_text s ≡ head → read_text s ≡ None
+    go None e = e
+    go (Some h) e = let t = text_bounds s h e in absurd (omega (arith, t.0, t.1, t.2, (text_only s h e).header.size))
 
 -- a text cut anywhere after that is as bad as it was whole
 pub cut_text : (s : List ℕ) (n : ℕ) → longest_text < n → lowerlist (take n s) ≡ lowerlist s

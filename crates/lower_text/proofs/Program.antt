@@ -1,5 +1,6 @@
 -- The laws of texts and listings, of the program `list`: what the bytes that it leaves and the number that comes back say. One hypothesis, `contract`, is
 -- the contract itself as any caller of `list` learns it (`Learnt`). Assumes nothing.
+use Rattle.std.specs.Prelude.{Option, Some, None}
 use Prim.Native.Nat.{ℕ, ◌+◌, ◌≤◌, ◌<◌}
 use native.Mathlib.Omega.{arith}
 use native.Mathlib.Decide.{dec_lt}
@@ -10,7 +11,7 @@ use lib.Seq.{sets, sets-eq, length-sets, length-take-le, take_all, take_at, drop
 use denote.MutBor.{MutBor}
 use denote.Ref.{Bor}
 use Rattle.words.proofs.Records.{sets_out}
-use Rattle.listing.specs.declared.text.Head.{Head}
+use Rattle.listing.specs.declared.text.Header.{Header}
 use Rattle.listing.specs.Column.{padding, padded, write_column}
 use Rattle.listing.specs.Text.{longest_text, read_nodes, read_list, read_names, read_text, TextTree, text_tree, read_tree}
 use Rattle.listing.specs.Output.{longest_listing, write_line, write_lines, printed, listing, lower_tree, print_tree, lowerlist, write_tree, Fits}
@@ -68,13 +69,13 @@ one_and_zeros_lem : printed (1 ∷ 0 ∷ 0 ∷ 0 ∷ 0 ∷ 0 ∷ 0 ∷ 0 ∷ [])
 unfolding one_and_zeros codes bytes_of_lines padding padded write_column write_line write_lines printed
 one_and_zeros_lem = refl
 
-unwritten : (s : List ℕ) → ((t : TextTree) → Fits t → s ≡ write_tree t → ⊥) → read_text s ≡ Head.Bad
+unwritten : (s : List ℕ) → ((t : TextTree) → Fits t → s ≡ write_tree t → ⊥) → read_text s ≡ None
 unfolding read_tree text_tree
 unwritten s none = go (read_text s) refl
   where
-    go : (head : Head) → read_text s ≡ head → read_text s ≡ Head.Bad
-    go Head.Bad e = e
-    go (Head.Good h) e =
+    go : (head : Option Header) → read_text s ≡ head → read_text s ≡ None
+    go None e = e
+    go (Some h) e =
         let t : TextTree = record { mode = h.mode; root = h.root; nodes = (read_nodes h s).words; list = (read_list h s).words; names = (read_names h s).words } in
         let only = tree_only s t (rw e) in
         absurd (none t only.1 only.0)
@@ -94,7 +95,7 @@ module _ (lifetimes : List ℕ × (List ℕ × Unit {0})) (text_at : Bor (List �
 
   -- What is printed is the listing of the text, whatever its bytes are.
   pub prints : Prints (lowerlist text) out out' r
-  prints = stored (lowerlist text) out out' r contract.0 contract.1 (length_lowerlist text)
+  prints = stored (lowerlist text) out out' r contract.stored contract.count (length_lowerlist text)
 
   -- No listing is longer than the longest.
   pub short : r ≤ longest_listing

@@ -1,22 +1,18 @@
 // From a text to its listing: the text is read into buffers, its tree is lowered, and what lowering leaves is printed.
 #![tactic(auto)]
 
-ghost use Rattle.std.specs.Prelude.{◌≡◌, ◌+◌, ◌≤◌, length, take, replicate};
-ghost use Rattle.std.proofs.Math.Option.{none};
-ghost use Rattle.std.proofs.lemmas.List.Edits.{sets};
+ghost use Rattle.std.specs.Prelude.{◌≡◌, ◌+◌, ◌≤◌, length, take, replicate, None};
 ghost use Rattle.listing.specs.Text.{longest_text};
-ghost use Rattle.listing.specs.Output.{longest_listing, print_tree, lowerlist};
+ghost use Rattle.listing.specs.Output.{longest_listing, print_tree, lowerlist, Leaves};
 ghost use Rattle.lower_text.specs.Prints.{nodes_bytes, list_bytes, names_bytes, tree_listing};
 
 use codegen::lower;
-use diagnostics::Refusal;
+use diagnostics::{Refusal, Refused};
 use listing::output::{CONSTANT_LINE, INSTRUCTION_LINE, RESULT_LINE, write_listing};
 use listing::text::{
-    HEADER_LINE, Head, Header, MAX_LIST_WORDS, MAX_NODES, MAX_PARAMETERS, NODE_LINE, WORD_LINE,
-    read_text,
+    HEADER_LINE, Header, MAX_LIST_WORDS, MAX_NODES, MAX_PARAMETERS, NODE_LINE, WORD_LINE, read_text,
 };
-use lowering::RESULT_WORDS;
-use result::numbers_of;
+use result::{numbers_of, refused_result};
 use runtime::instruction::INSTRUCTION_WORDS;
 use runtime::value::CONSTANT_WORDS;
 use syntax::ast::NODE_WORDS;
@@ -29,7 +25,7 @@ const MAX_CONSTANTS: usize = 512;
 
 const MAX_MARKS: usize = 512;
 
-// The buffers.
+// The buffers. Arrays: document 01 gives the bounds, and nothing here allocates.
 const NODE_BYTES: usize = WORD_BYTES * NODE_WORDS;
 
 const NODES_BYTES: usize = NODE_BYTES * (MAX_NODES as usize);
@@ -73,10 +69,10 @@ pub fn listing_buffer() -> [u8; LISTING_BUFFER]
     [0; LISTING_BUFFER]
 }
 
-// Lowers a tree and prints what that leaves. The answer is how many bytes the listing has; those past the end of `out` are left out.
+// Lowers a tree and prints what that leaves. The answer is how many bytes the listing has; those past the end of `out` are left out. The parameters are those of
+// `lower`.
 fn list_tree(nodes: &[u8], root: u32, mode: u32, list: &[u8], names: &[u8], out: &mut [u8]) -> usize
-    ensures bytes { out.new ≡ sets out.old 0 (tree_listing nodes.now root mode list.now names.now) }
-    ensures length { result ≡ length (tree_listing nodes.now root mode list.now names.now) }
+    ensures { Leaves (tree_listing nodes.now root mode list.now names.now) out.old out.new result }
 {
     let mut code = [0u8; CODE_BYTES];
     let mut constants = [0u8; CONSTANTS_BYTES];
@@ -91,17 +87,15 @@ fn list_tree(nodes: &[u8], root: u32, mode: u32, list: &[u8], names: &[u8], out:
         &mut constants,
         &mut marks,
     );
-    let numbers = numbers_of(r);
-    write_listing(out, &numbers, &code, &constants)
+    write_listing(out, &numbers_of(r), &code, &constants)
 }
 
 // The same for the tree that a header describes, at the start of each buffer.
 fn list_good(h: Header, nodes: &[u8], list: &[u8], names: &[u8], out: &mut [u8]) -> usize
-    requires h_in_bounds { nodes_bytes h ≤ length nodes.now }
-    requires h_in_bounds_2 { list_bytes h ≤ length list.now }
-    requires h_in_bounds_3 { names_bytes h ≤ length names.now }
-    ensures bytes { out.new ≡ sets out.old 0 (tree_listing (take (nodes_bytes h) nodes.now) h.root h.mode (take (list_bytes h) list.now) (take (names_bytes h) names.now)) }
-    ensures length { result ≡ length (tree_listing (take (nodes_bytes h) nodes.now) h.root h.mode (take (list_bytes h) list.now) (take (names_bytes h) names.now)) }
+    requires nodes_within { nodes_bytes h ≤ length nodes.now }
+    requires list_within { list_bytes h ≤ length list.now }
+    requires names_within { names_bytes h ≤ length names.now }
+    ensures { Leaves (tree_listing (take (nodes_bytes h) nodes.now) h.root h.mode (take (list_bytes h) list.now) (take (names_bytes h) names.now)) out.old out.new result }
 {
     let nodes_end = NODE_BYTES * (h.nodes as usize);
     let list_end = WORD_BYTES * (h.list as usize);
@@ -119,27 +113,25 @@ fn list_good(h: Header, nodes: &[u8], list: &[u8], names: &[u8], out: &mut [u8])
 // Text laid out otherwise or past the bounds: number 1 and zeros.
 #[tactic(auto, unfolding(words::specs::Words::words, listing::specs::Output::print_tree))]
 fn list_bad(out: &mut [u8]) -> usize
-    ensures bytes { out.new ≡ sets out.old 0 (print_tree none) }
-    ensures length { result ≡ length (print_tree none) }
+    ensures { Leaves (print_tree None) out.old out.new result }
 {
-    let refusal = Refusal::Size;
-    let mut numbers = [0u32; RESULT_WORDS];
-    numbers[0] = refusal.number();
-    let nothing = [0u8; 0];
-    write_listing(out, &numbers, &nothing, &nothing)
+    let r = refused_result(Refused {
+        refusal: Refusal::Size,
+        place: 0,
+    });
+    write_listing(out, &numbers_of(r), &[], &[])
 }
 
 // Prints the listing of a text, whatever its bytes are. The answer is how many bytes the listing has; those past the end of `out` are left out.
+#[tactic(auto, using(crate::proofs::Laws::good_listing, crate::proofs::Laws::bad_listing))]
 pub fn list(text: &[u8], out: &mut [u8]) -> usize
-    ensures bytes { out.new ≡ sets out.old 0 (lowerlist text.now) }
-    ensures length { result ≡ length (lowerlist text.now) }
+    ensures { Leaves (lowerlist text.now) out.old out.new result }
 {
     let mut nodes = [0u8; NODES_BYTES];
     let mut list = [0u8; LIST_BYTES];
     let mut names = [0u8; NAMES_BYTES];
-    let head = read_text(text, &mut nodes, &mut list, &mut names);
-    match head {
-        Head::Good(h) => list_good(h, &nodes, &list, &names, out),
-        Head::Bad => list_bad(out),
+    match read_text(text, &mut nodes, &mut list, &mut names) {
+        Some(h) => list_good(h, &nodes, &list, &names, out),
+        None => list_bad(out),
     }
 }

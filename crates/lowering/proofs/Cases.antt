@@ -2,7 +2,7 @@
 use mathlib.Core.Path.{◌≡◌, refl}
 use mathlib.Core.List.{[], ◌∷◌, map}
 use Prim.Native.Nat.{ℕ}
-use lib.Ieee.{of_bits, to_bits, nan_bits, of_fields, odd, size, climb, span}
+use lib.Ieee.{of_bits, to_bits, nan_bits}
 use Rattle.words.specs.Records.{capacity, record_at, put_record, same_words, is_at, position_from, position, append}
 use Rattle.words.specs.Words.{word_of, words, tail, bytes_of}
 use Rattle.environment.specs.Bits.{bit, clear, flip}

@@ -1,5 +1,6 @@
 -- What a walk that lowers a child in place uses of the definition: where a node's value is, what a block and an operator come to, which node a kind's number is,
 -- and what patching refuses. Assumes nothing.
+use Rattle.std.specs.Prelude.{Option, Some, None, Result, Ok, Err}
 use Prim.Native.Nat.{ℕ, zero, suc, ◌+◌, ◌*◌}
 use mathlib.Core.Path.{◌≡◌, refl, sym, subst}
 use mathlib.Core.Logic.{◌≢◌, ◌⊎◌, inl, inr}
@@ -10,7 +11,6 @@ use borrow.Author.Tests.{ne_eqb}
 use Rattle.diagnostics.specs.declared.Refusal.{Refusal}
 use Rattle.diagnostics.specs.declared.Error.{Error}
 use Rattle.environment.specs.declared.Register.{Register}
-use Rattle.environment.specs.declared.Found.{Found}
 use Rattle.environment.specs.Environment.{freed, lookup}
 use Rattle.syntax.specs.declared.ast.Node.{Node}
 use Rattle.syntax.specs.declared.ops.BinaryOp.{BinaryOp}
@@ -19,7 +19,6 @@ use Rattle.runtime.specs.declared.instruction.Instruction.{Instruction}
 use Rattle.runtime.specs.declared.operand.Operand.{Operand}
 use Rattle.runtime.specs.Instruction.{instruction_width, has_destination}
 use Rattle.runtime.specs.Operands.{reg_of}
-use Rattle.lowering.specs.declared.Dest.{Dest}
 use Rattle.lowering.specs.Tree.{Tree, node}
 use Rattle.lowering.specs.Checked.{Checked}
 use Rattle.lowering.specs.Walk.{Made, Outcome, ends, stops, Walk, bind, ret, error}
@@ -81,29 +80,29 @@ literal_source (Node.Map first count) = refl
 -- ---- the register of a node's value
 
 -- the register asked for, if one is
-abbrev At : Dest → Register → Type 0
-At Dest.Any r = Unit {0}
-At (Dest.To d) r = r ≡ d
+abbrev At : Option Register → Register → Type 0
+At None r = Unit {0}
+At (Some d) r = r ≡ d
 
 -- an operand that is in a register, the one asked for
-record Aimed (dest : Dest) (x : Operand) (m : Made) : Type 0 where
+record Aimed (dest : Option Register) (x : Operand) (m : Made) : Type 0 where
   held : Register
   is : x ≡ Operand.Register held
   at : At dest held
 
-aimed : {dest : Dest} {m : Made} (d : Register) → At dest d → Holds (Aimed dest) (ends (Operand.Register d) m)
+aimed : {dest : Option Register} {m : Made} (d : Register) → At dest d → Holds (Aimed dest) (ends (Operand.Register d) m)
 aimed d h = fine (record { held = d; is = refl; at = h })
 
-destination_at : (dest : Dest) (m : Made) → Holds (λ d n. At dest d) (destination dest m)
+destination_at : (dest : Option Register) (m : Made) → Holds (λ d n. At dest d) (destination dest m)
 unfolding destination
-destination_at (Dest.To d) m = fine refl
-destination_at Dest.Any m = go (allocate_temp m)
+destination_at (Some d) m = fine refl
+destination_at None m = go (allocate_temp m)
   where
     go : (o : Outcome Register) → Holds (λ d n. Unit {0}) o
     go (ends d n) = fine tt
     go (stops e n) = void
 
-aimed_gives : {dest : Dest} (o : Outcome Operand) → Holds (Aimed dest) o → GivesRegister o
+aimed_gives : {dest : Option Register} (o : Outcome Operand) → Holds (Aimed dest) o → GivesRegister o
 unfolding GivesRegister
 aimed_gives o (fine {a = x} {m = m} a) = subst (λ x. GivesRegister (ends x m)) (sym a.is) tt
 aimed_gives o void = tt
@@ -114,31 +113,31 @@ holds_with (fine e) = e
 holds_with void = tt
 
 -- what is in the register asked for stays there
-kept_into : (d : Register) {o : Outcome Operand} → Holds (Aimed (Dest.To d)) o → OnlyAnswer d (bind o (λ src. materialized (source src) (Dest.To d)))
+kept_into : (d : Register) {o : Outcome Operand} → Holds (Aimed (Some d)) o → OnlyAnswer d (bind o (λ src. materialized (source src) (Some d)))
 unfolding source materialized
 kept_into d h = holds_with (chain h (λ x m a. rw a.is (fine a.at)))
 
 -- a constant is loaded into it
-loaded_into : (c : Operand) (d : Register) (m : Made) → OnlyAnswer d (load_constant c (Dest.To d) m)
+loaded_into : (c : Operand) (d : Register) (m : Made) → OnlyAnswer d (load_constant c (Some d) m)
 unfolding load_constant destination bind
 loaded_into c d m = holds_with (past (store c m) (λ k m₁. past (emit _ m₁) (λ p m₂. fine refl)))
 
-module _ (t : Tree) (E : ℕ → Dest → Walk Operand) (J : ℕ → Walk ℕ) (i : ℕ) where
-  moved_aimed : (r : Register) (dest : Dest) (m : Made) → Holds (Aimed dest) (moved t r dest m)
+module _ (t : Tree) (E : ℕ → Option Register → Walk Operand) (J : ℕ → Walk ℕ) (i : ℕ) where
+  moved_aimed : (r : Register) (dest : Option Register) (m : Made) → Holds (Aimed dest) (moved t r dest m)
   unfolding moved
-  moved_aimed r Dest.Any m = aimed r tt
-  moved_aimed r (Dest.To d) m = go (same_register d r)
+  moved_aimed r None m = aimed r tt
+  moved_aimed r (Some d) m = go (same_register d r)
     where
-      go : (b : Bool) → Holds (Aimed (Dest.To d)) (cond b (ret (Operand.Register d)) (λ n. bind (emit (Instruction.Move (reg_of d) (reg_of r)) n) (λ p. ret (Operand.Register d))) m)
+      go : (b : Bool) → Holds (Aimed (Some d)) (cond b (ret (Operand.Register d)) (λ n. bind (emit (Instruction.Move (reg_of d) (reg_of r)) n) (λ p. ret (Operand.Register d))) m)
       go true = aimed d refl
       go false = past _ (λ p n. aimed d refl)
 
-  named_aimed : (f : Found) (dest : Dest) (m : Made) → Holds (Aimed dest) (lower_name t i f dest m)
+  named_aimed : (f : Result Register Refusal) (dest : Option Register) (m : Made) → Holds (Aimed dest) (lower_name t i f dest m)
   unfolding lower_name
-  named_aimed (Found.At r) dest m = moved_aimed r dest m
-  named_aimed (Found.Refused refusal) dest m = void
+  named_aimed (Ok r) dest m = moved_aimed r dest m
+  named_aimed (Err refusal) dest m = void
 
-  binary_aimed : (operator : BinaryOp) (left right : ℕ) {dest : Dest} (d : Register) → At dest d → (x y : Source) (m : Made) →
+  binary_aimed : (operator : BinaryOp) (left right : ℕ) {dest : Option Register} (d : Register) → At dest d → (x y : Source) (m : Made) →
       Holds (Aimed dest) (binary_sources free_temp t E operator left right d x y m)
   unfolding binary_sources
   binary_aimed operator left right d h (constant a) (constant b) m = past _ (λ r m₁. past _ (λ s m₂. past _ (λ p m₃. past _ (λ u m₄. past _ (λ v m₅. aimed d h)))))
@@ -147,7 +146,7 @@ module _ (t : Tree) (E : ℕ → Dest → Walk Operand) (J : ℕ → Walk ℕ) (
   binary_aimed operator left right d h (register a) (register b) m = past _ (λ p m₁. past _ (λ u m₂. past _ (λ v m₃. aimed d h)))
 
   -- a node that is no literal is in a register, the one asked for
-  node_aimed : (n : Node) → is_literal n ≡ false → (dest : Dest) (m : Made) → Holds (Aimed dest) (lower_node free_temp t E J i n dest m)
+  node_aimed : (n : Node) → is_literal n ≡ false → (dest : Option Register) (m : Made) → Holds (Aimed dest) (lower_node free_temp t E J i n dest m)
   unfolding is_literal lower_node
   node_aimed (Node.Number low high) l dest m = absurd (true≢false l)
   node_aimed (Node.String symbol) l dest m = absurd (true≢false l)
@@ -173,11 +172,11 @@ module _ (t : Tree) (E : ℕ → Dest → Walk Operand) (J : ℕ → Walk ℕ) (
       chain (destination_at dest m) (λ d m₁ h. past _ (λ src m₂. past _ (λ key m₃. past _ (λ p m₄. past _ (λ u m₅. aimed d h)))))
   node_aimed (Node.Map first count) l dest m = chain (destination_at dest m) (λ d m₁ h. past _ (λ p m₂. past _ (λ u m₃. aimed d h)))
 
-  pub node_register : (n : Node) → is_literal n ≡ false → (dest : Dest) (m : Made) → GivesRegister (lower_node free_temp t E J i n dest m)
+  pub node_register : (n : Node) → is_literal n ≡ false → (dest : Option Register) (m : Made) → GivesRegister (lower_node free_temp t E J i n dest m)
   node_register n l dest m = aimed_gives _ (node_aimed n l dest m)
 
   -- a literal is its operand, and nothing is made
-  pub literal_of : (n : Node) → is_literal n ≡ true → (dest : Dest) → lower_node free_temp t E J i n dest ≡ ret (literal n)
+  pub literal_of : (n : Node) → is_literal n ≡ true → (dest : Option Register) → lower_node free_temp t E J i n dest ≡ ret (literal n)
   unfolding is_literal literal lower_node
   literal_of (Node.Number low high) l dest = refl
   literal_of (Node.String symbol) l dest = refl
@@ -196,51 +195,51 @@ module _ (t : Tree) (E : ℕ → Dest → Walk Operand) (J : ℕ → Walk ℕ) (
   literal_of (Node.Map first count) l dest = absurd (false≢true l)
 
   -- a literal is loaded
-  pub literal_loaded : (n : Node) → is_literal n ≡ true → (dest : Dest) (m : Made) →
+  pub literal_loaded : (n : Node) → is_literal n ≡ true → (dest : Option Register) (m : Made) →
       lower_materializing (λ d. lower_node free_temp t E J i n d) dest m ≡ load_constant (literal n) dest m
   unfolding lower_materializing bind materialized
   literal_loaded n l dest m = rw (literal_of n l dest, literal_source n)
 
   -- with a destination given, that register is the answer
-  pub materializing_into : (n : Node) (d : Register) (m : Made) → OnlyAnswer d (lower_materializing (λ dest. lower_node free_temp t E J i n dest) (Dest.To d) m)
+  pub materializing_into : (n : Node) (d : Register) (m : Made) → OnlyAnswer d (lower_materializing (λ dest. lower_node free_temp t E J i n dest) (Some d) m)
   unfolding lower_materializing
   materializing_into n d m = go (is_literal n) refl
     where
-      go : (b : Bool) → is_literal n ≡ b → OnlyAnswer d (lower_materializing (λ dest. lower_node free_temp t E J i n dest) (Dest.To d) m)
-      go true l = rw (literal_loaded n l (Dest.To d) m) (loaded_into (literal n) d m)
-      go false l = kept_into d (node_aimed n l (Dest.To d) m)
+      go : (b : Bool) → is_literal n ≡ b → OnlyAnswer d (lower_materializing (λ dest. lower_node free_temp t E J i n dest) (Some d) m)
+      go true l = rw (literal_loaded n l (Some d) m) (loaded_into (literal n) d m)
+      go false l = kept_into d (node_aimed n l (Some d) m)
 
   -- with none given, an operator takes one, and then it is as if that one was given
   pub binary_any : (operator : BinaryOp) (left right : ℕ) (m : Made) →
-      lower_node free_temp t E J i (Node.Binary operator left right) Dest.Any m
-      ≡ bind (allocate_temp m) (λ d. lower_node free_temp t E J i (Node.Binary operator left right) (Dest.To d))
+      lower_node free_temp t E J i (Node.Binary operator left right) None m
+      ≡ bind (allocate_temp m) (λ d. lower_node free_temp t E J i (Node.Binary operator left right) (Some d))
   unfolding lower_node destination bind
   binary_any operator left right m = refl
 
 module _ (t : Tree) (i : ℕ) where
   -- so of `lower_expression` at a node: it answers the register given, and a register if the node is no literal
-  pub expression_into : (d : Register) (m : Made) → OnlyAnswer d (lower_materializing (lower_expression free_temp t i) (Dest.To d) m)
+  pub expression_into : (d : Register) (m : Made) → OnlyAnswer d (lower_materializing (lower_expression free_temp t i) (Some d) m)
   unfolding lower_expression expression_below
   expression_into d m = materializing_into t (λ n e. expression_below free_temp t i n e) (λ n. jump_below free_temp t i n) i (node t i) d m
 
-  pub expression_register : is_literal (node t i) ≡ false → (dest : Dest) (m : Made) → GivesRegister (lower_expression free_temp t i dest m)
+  pub expression_register : is_literal (node t i) ≡ false → (dest : Option Register) (m : Made) → GivesRegister (lower_expression free_temp t i dest m)
   unfolding lower_expression expression_below
   expression_register l dest m = node_register t (λ n e. expression_below free_temp t i n e) (λ n. jump_below free_temp t i n) i (node t i) l dest m
 
 -- a value in the register asked for is answered by its register and found there again
 answered_again : (d : Register) (o : Outcome Register) → OnlyAnswer d o →
-    bind (bind o (λ r. ret (Operand.Register d))) (λ src. materialized (source src) (Dest.To d)) ≡ o
+    bind (bind o (λ r. ret (Operand.Register d))) (λ src. materialized (source src) (Some d)) ≡ o
 unfolding OnlyAnswer bind source materialized
 answered_again d (ends r m) e = rw e
 answered_again d (stops f m) e = refl
 
 -- a block with a destination given is its tail
 pub block_into : {t : Tree} → Checked t → (i tail : ℕ) → node t i ≡ Node.Block tail → tail ≢ absent → (d : Register) (m : Made) →
-    lower_materializing (lower_expression free_temp t i) (Dest.To d) m ≡ lower_materializing (lower_expression free_temp t tail) (Dest.To d) m
+    lower_materializing (lower_expression free_temp t i) (Some d) m ≡ lower_materializing (lower_expression free_temp t tail) (Some d) m
 unfolding lower_materializing lower_node destination lower_tail bind
 block_into {t} checked i tail e some d m =
-    rw (expression_at checked i (Dest.To d), e, ne_eqb tail absent some)
-    (answered_again d (lower_materializing (lower_expression free_temp t tail) (Dest.To d) m) (expression_into t tail d m))
+    rw (expression_at checked i (Some d), e, ne_eqb tail absent some)
+    (answered_again d (lower_materializing (lower_expression free_temp t tail) (Some d) m) (expression_into t tail d m))
 
 -- ---- an operator's registers given back
 
@@ -268,7 +267,7 @@ unfolding bind
 bind_bind (ends x m) k l = refl
 bind_bind (stops e m) k l = refl
 
-module _ (t : Tree) (E : ℕ → Dest → Walk Operand) (operator : BinaryOp) (left right : ℕ) (d : Register) where
+module _ (t : Tree) (E : ℕ → Option Register → Walk Operand) (operator : BinaryOp) (left right : ℕ) (d : Register) where
   -- an operator's instruction, and then its registers given back
   pub binary_given_back : (x y : Source) → are_constants x y ≡ false → (m : Made) →
       binary_sources free_temp t E operator left right d x y m

@@ -1,6 +1,5 @@
 -- Law 1, of the definition: which numbers come back and where, and what is written with each; and of patching.
-use Rattle.std.specs.Prelude.{ℕ, ◌≤◌, ◌+◌, ◌*◌, ◌<◌, ◌≡◌, ◌≢◌, List, length, get_or}
-use Rattle.std.proofs.Math.Option.{some}
+use Rattle.std.specs.Prelude.{ℕ, ◌≤◌, ◌+◌, ◌*◌, ◌<◌, ◌≡◌, ◌≢◌, List, length, get_or, Some}
 use Rattle.diagnostics.specs.declared.Error.{Error}
 use Rattle.diagnostics.specs.Refusal.{refusal_number}
 use Rattle.words.specs.Words.{words}
@@ -71,7 +70,7 @@ module _ (nodes : List ℕ) (root mode : ℕ) (list names code constants marks :
     pub has_else : (i c a b : ℕ) → Meets (tree_of nodes list names) root i → node (tree_of nodes list names) i ≡ Node.If c a b → b ≢ absent
     -- 12: every key without a value is a name
     pub has_name : (i first count : ℕ) → Meets (tree_of nodes list names) root i → node (tree_of nodes list names) i ≡ Node.Map first count → (k : ℕ) → k < count →
-        get_or (words list) (first + 2 * k + 1) 0 ≡ absent → (name : ℕ) × (name_of (node (tree_of nodes list names) (get_or (words list) (first + 2 * k) 0)) ≡ some name)
+        get_or (words list) (first + 2 * k + 1) 0 ≡ absent → (name : ℕ) × (name_of (node (tree_of nodes list names) (get_or (words list) (first + 2 * k) 0)) ≡ Some name)
     pub shown : l ≡ lowered (result 0 place 0 0 (instructions_of made) (constants_of made) made.state.registers.frame_size (length (words names))) made
 
   -- how many marks were made (the result does not say it); 0 if the walk did not start

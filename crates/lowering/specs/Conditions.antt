@@ -1,8 +1,7 @@
 -- A law of our own, for the code that lowering leaves of an accepted tree in mode 1 or 2, with the jump at the place given patched to a goal: what is
 -- given, and each sentence as a statement about `after`. Proved in proofs/.
-use Rattle.std.specs.Prelude.{ℕ, ◌+◌, ◌<◌, ◌≤◌, ◌≡◌, ◌≢◌, ◌↔◌, List, Bool, true, false, cond, not, length}
+use Rattle.std.specs.Prelude.{ℕ, ◌+◌, ◌<◌, ◌≤◌, ◌≡◌, ◌≢◌, ◌↔◌, List, Bool, true, false, cond, not, length, Some}
 use Rattle.std.specs.Bool.{beq}
-use Rattle.std.proofs.Math.Option.{some}
 use Rattle.lowering.specs.Tree.{Tree, tree_of, node}
 use Rattle.lowering.specs.Result.{Lowered, JumpPatched, lower, patch_jump}
 use Rattle.lowering.specs.Meaning.{Operators, Hypotheses, Evaluation, evaluates, fails, undefined, tests, value_at, OrderPremise, ConditionPremise, AtRoot, Reaches, Plain, size_at}
@@ -28,7 +27,7 @@ pub record Entry (sense : Bool) (t : Tree) (root : ℕ) : Type 1 where
 pub record Goal (jump : ℕ) : Type 0 where
   pub offset : ℕ
   pub place : ℕ
-  pub reached : target jump offset ≡ some place
+  pub reached : target jump offset ≡ Some place
 
 module _ (sense : Bool) (t : Tree) (root : ℕ) (x : Lowered) where
   -- the place after the code

@@ -1,13 +1,12 @@
 -- Examples that are run or refuted by name: the worked page of document 01, the smallest rule that shows what a NaN does, conditions of one jump, and what
 -- lowering or patching leaves with any word or number put in its place.
-use Rattle.std.specs.Prelude.{ℕ, List, [], ◌∷◌, Float, set, replicate}
+use Rattle.std.specs.Prelude.{ℕ, List, [], ◌∷◌, Float, set, replicate, Option}
 use Rattle.diagnostics.specs.declared.Error.{Error}
 use Rattle.words.specs.Words.{bytes_of}
 use Rattle.environment.specs.declared.Register.{Register}
 use Rattle.environment.specs.Registers.{without}
 use Rattle.runtime.specs.declared.operand.Operand.{Operand}
 use Rattle.runtime.specs.Value.{number_of}
-use Rattle.lowering.specs.declared.Dest.{Dest}
 use Rattle.lowering.specs.Tree.{tree_of, Tree}
 use Rattle.lowering.specs.Walk.{ends, Walk}
 use Rattle.lowering.specs.Steps.{with_registers}
@@ -168,7 +167,7 @@ jump_return = 41 ∷ 0 ∷ 0 ∷ 0 ∷ 40 ∷ 1 ∷ 0 ∷ 0 ∷ []
 abbrev pub no_words : Tree
 no_words = record { nodes = []; list = []; names = [] }
 
-abbrev pub takes_one : ℕ → Dest → Walk Operand
+abbrev pub takes_one : ℕ → Option Register → Walk Operand
 takes_one i dest m = ends (Operand.Register (Register.Temp 1)) (with_registers (without (registers_of m) 1) m)
 
 -- ---- x + y: parameters 7 and 8

@@ -2,7 +2,6 @@
 -- `after`. Proved in proofs/.
 use Rattle.std.specs.Prelude.{ℕ, ◌+◌, ◌<◌, ◌≤◌, ◌≡◌, ◌≢◌, ◌↔◌, List, length}
 use Rattle.words.specs.Records.{record_at}
-use Rattle.words.specs.Words.{words}
 use Rattle.runtime.specs.Instruction.{instruction_width}
 use Rattle.runtime.specs.Value.{constant_width}
 use Rattle.lowering.specs.Tree.{Tree, tree_of, node}

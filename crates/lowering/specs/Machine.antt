@@ -1,8 +1,7 @@
 -- "The machine is fed code, constants and parameters. The parameters fill registers 0 upward, anything the rest; its place starts at 0. Each
 -- step runs the instruction there, then goes one on or jumps." It reads the words of the code and of the pool.
-use Rattle.std.specs.Prelude.{ℕ, zero, suc, ◌+◌, ◌-◌, List, [], ◌∷◌, Bool, true, false, cond, not, ◌&&◌, leb, ltb, eqb, get_or}
+use Rattle.std.specs.Prelude.{ℕ, zero, suc, ◌+◌, ◌-◌, List, [], ◌∷◌, Bool, true, false, cond, not, ◌&&◌, leb, ltb, eqb, get_or, Option, Some, None}
 use Rattle.std.specs.Bool.{beq}
-use Rattle.std.proofs.Math.Option.{Option, none, some}
 use Rattle.words.specs.Words.{word_end}
 use Rattle.words.specs.Records.{capacity, record_at}
 use Rattle.runtime.specs.declared.instruction.Instruction.{Instruction}
@@ -94,17 +93,17 @@ action (Instruction.CaptureValue src) = other
 -- "A jump goes to its own place plus its offset." "An offset is a two's-complement word": from 2^31 on it is negative, and a place below 0 is none.
 unfoldable pub target : ℕ → ℕ → Option ℕ
 target place offset =
-    cond (ltb offset offset_end) (some (place + offset))
-    (cond (leb word_end (place + offset)) (some (place + offset - word_end))
-    none)
+    cond (ltb offset offset_end) (Some (place + offset))
+    (cond (leb word_end (place + offset)) (Some (place + offset - word_end))
+    None)
 
 -- record `place` of w words in a buffer that has `count` of them; none outside
 unfoldable pub record_in : ℕ → List ℕ → ℕ → ℕ → Option (List ℕ)
-record_in w ws count place = cond (ltb place count && ltb place (capacity w ws)) (some (record_at w ws place)) none
+record_in w ws count place = cond (ltb place count && ltb place (capacity w ws)) (Some (record_at w ws place)) None
 
 -- the instruction at a place of the code; none at a place outside, or where the words are no instruction
 unfoldable pub fetch : List ℕ → ℕ → ℕ → Option Instruction
-fetch code count place = elim (record_in instruction_width code count place) [ some ws ↦ decode ws | none ↦ none ]
+fetch code count place = elim (record_in instruction_width code count place) [ Some ws ↦ decode ws | None ↦ None ]
 
 -- how a run ends: with a value, with a failure, or with neither
 pub data Ending (M : Operators) : Type 0 where
@@ -124,18 +123,18 @@ module _ (M : Operators) where
   -- "Constant, three words: kind (0 nil, 1 boolean, 2 number, 3 string), low, high."
   abbrev pub constant_kinds : List (ℕ → ℕ → Option M.Value)
   constant_kinds =
-      (λ low high. some M.nil)
-      ∷ (λ low high. some (M.boolean (not (eqb low 0))))
-      ∷ (λ low high. some (M.number (number_of low high)))
-      ∷ (λ low high. some (M.string low))
+      (λ low high. Some M.nil)
+      ∷ (λ low high. Some (M.boolean (not (eqb low 0))))
+      ∷ (λ low high. Some (M.number (number_of low high)))
+      ∷ (λ low high. Some (M.string low))
       ∷ []
 
   unfoldable pub constant_of : List ℕ → Option M.Value
-  constant_of ws = get_or constant_kinds (get_or ws 0 0) (λ low high. none) (get_or ws 1 0) (get_or ws 2 0)
+  constant_of ws = get_or constant_kinds (get_or ws 0 0) (λ low high. None) (get_or ws 1 0) (get_or ws 2 0)
 
   -- the constant at a place of the pool; none outside
   unfoldable pub constant_at : List ℕ → ℕ → ℕ → Option M.Value
-  constant_at pool count place = elim (record_in constant_width pool count place) [ some ws ↦ constant_of ws | none ↦ none ]
+  constant_at pool count place = elim (record_in constant_width pool count place) [ Some ws ↦ constant_of ws | None ↦ None ]
 
   abbrev pub fill : Registers M → ℕ → M.Value → Registers M
   fill R d v r = cond (eqb r d) v (R r)
@@ -143,13 +142,13 @@ module _ (M : Operators) where
   -- the constants by place
   module _ (constants : ℕ → Option M.Value) where
     abbrev pub read : Registers M → Input → Option M.Value
-    read R (register r) = some (R r)
+    read R (register r) = Some (R r)
     read R (pooled k) = constants k
 
     -- on with what was read; a constant that is not in the pool ends the run "with neither"
     abbrev pub reading : {A : Type 0} → Option A → (A → Now M) → Now M
-    reading (some v) k = k v
-    reading none k = ended lost
+    reading (Some v) k = k v
+    reading None k = ended lost
 
     -- on with an operator's answer; "a failed operator [ends the run] with its failure"
     abbrev pub onward : {A : Type 0} → Answer M.Failure A → (A → Now M) → Now M
@@ -157,8 +156,8 @@ module _ (M : Operators) where
     onward (fail x) k = ended (failed x)
 
     abbrev pub go_to : Option ℕ → Registers M → Now M
-    go_to (some place) R = at place R
-    go_to none R = ended lost
+    go_to (Some place) R = at place R
+    go_to None R = ended lost
 
     -- to the target if the test says so, else one on
     abbrev pub branch : Bool → ℕ → ℕ → Registers M → Now M
@@ -180,8 +179,8 @@ module _ (M : Operators) where
     -- the code by place
     module _ (code : ℕ → Option Instruction) where
       unfoldable pub step_at : Option Instruction → ℕ → Registers M → Now M
-      step_at (some i) place R = act (action i) place R
-      step_at none place R = ended lost
+      step_at (Some i) place R = act (action i) place R
+      step_at None place R = ended lost
 
       unfoldable pub machine_step : Now M → Now M
       machine_step (at place R) = step_at (code place) place R

@@ -1,6 +1,5 @@
 -- "The meaning used by demand 3": the value of a tree without calls and maps, over the arena, for any values, failures and operators.
-use Rattle.std.specs.Prelude.{ℕ, zero, suc, ◌+◌, ◌≡◌, List, [], ◌∷◌, Bool, true, false, cond, not, eqb, Float}
-use Rattle.std.proofs.Math.Option.{Option, none, some}
+use Rattle.std.specs.Prelude.{ℕ, zero, suc, ◌+◌, ◌≡◌, List, [], ◌∷◌, Bool, true, false, cond, not, eqb, Float, Option, Some, None}
 use Rattle.syntax.specs.declared.ast.Node.{Node}
 use Rattle.syntax.specs.declared.ops.BinaryOp.{BinaryOp}
 use Rattle.syntax.specs.declared.ops.UnaryOp.{UnaryOp}
@@ -83,8 +82,8 @@ pub data IfAny {F A : Type 0} (K : A → Type 0) : Evaluation F A → Type 0 whe
 
 -- the place of the last of the names that is x
 unfoldable pub last_named : List ℕ → ℕ → Option ℕ
-last_named [] x = none
-last_named (name ∷ names) x = elim (last_named names x) [ some i ↦ some (suc i) | none ↦ cond (eqb name x) (some 0) none ]
+last_named [] x = None
+last_named (name ∷ names) x = elim (last_named names x) [ Some i ↦ Some (suc i) | None ↦ cond (eqb name x) (Some 0) None ]
 
 module _ (M : Operators) where
   -- a comparison's boolean as a value
@@ -120,8 +119,8 @@ module _ (M : Operators) where
   module _ (t : Tree) (parameters : ℕ → M.Value) where
     -- "a name the last parameter so called"
     abbrev pub parameter : Option ℕ → Evaluation M.Failure M.Value
-    parameter (some i) = evaluates (parameters i)
-    parameter none = undefined
+    parameter (Some i) = evaluates (parameters i)
+    parameter None = undefined
 
     -- "worked out left to right". "A literal is its constant, [..] a block its tail or nil." "And gives its left value when that tests false,
     -- else works out and gives its right; or the reverse. An if works out its then where the condition tests true, otherwise its else."

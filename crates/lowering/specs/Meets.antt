@@ -1,6 +1,5 @@
 -- What the walk meets: every node that the root reaches but for a name that is the key of an entry with a value, which "isn't looked up".
-use Rattle.std.specs.Prelude.{ℕ, ◌+◌, ◌*◌, ◌<◌, ◌≡◌, ◌≢◌, ◌⊎◌, get_or}
-use Rattle.std.proofs.Math.Option.{none}
+use Rattle.std.specs.Prelude.{ℕ, ◌+◌, ◌*◌, ◌<◌, ◌≡◌, ◌≢◌, ◌⊎◌, get_or, None}
 use Rattle.syntax.specs.declared.ast.Node.{Node}
 use Rattle.syntax.specs.declared.ops.BinaryOp.{BinaryOp}
 use Rattle.syntax.specs.declared.ops.UnaryOp.{UnaryOp}
@@ -27,7 +26,7 @@ pub data Part (t : Tree) : Node → ℕ → Type 0 where
   object : {x property : ℕ} → Part t (Node.PropertyAccess x property) x
   -- a key that is no name, or has no value
   key : {first count : ℕ} (k : ℕ) → k < count →
-      (name_of (node t (get_or t.list (first + 2 * k) 0)) ≡ none) ⊎ (get_or t.list (first + 2 * k + 1) 0 ≡ absent) →
+      (name_of (node t (get_or t.list (first + 2 * k) 0)) ≡ None) ⊎ (get_or t.list (first + 2 * k + 1) 0 ≡ absent) →
       Part t (Node.Map first count) (get_or t.list (first + 2 * k) 0)
   value : {first count : ℕ} (k : ℕ) → k < count → get_or t.list (first + 2 * k + 1) 0 ≢ absent → Part t (Node.Map first count) (get_or t.list (first + 2 * k + 1) 0)
 

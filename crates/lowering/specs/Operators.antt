@@ -1,7 +1,6 @@
 -- The instructions of the eleven operators, by where their operands are: two registers (RR), a register and a constant (RK), a constant and a
 -- register (KR). "Greater swaps operands, not their evaluation. A constant on the left of add, multiply, equal, not-equal goes right."
-use Rattle.std.specs.Prelude.{ℕ, Bool, true, false}
-use Rattle.std.proofs.Math.Option.{Option, none, some}
+use Rattle.std.specs.Prelude.{ℕ, Bool, true, false, Option, Some, None}
 use Rattle.syntax.specs.declared.ops.BinaryOp.{BinaryOp}
 use Rattle.syntax.specs.declared.ops.UnaryOp.{UnaryOp}
 use Rattle.syntax.specs.declared.ops.Comparison.{Comparison}
@@ -52,17 +51,17 @@ unary UnaryOp.Deref d a = Instruction.Deref d a
 
 -- "one of the six comparisons"
 unfoldable pub comparison : BinaryOp → Option Comparison
-comparison BinaryOp.Add = none
-comparison BinaryOp.Subtract = none
-comparison BinaryOp.Multiply = none
-comparison BinaryOp.Divide = none
-comparison BinaryOp.Modulo = none
-comparison BinaryOp.Equal = some Comparison.Equal
-comparison BinaryOp.NotEqual = some Comparison.NotEqual
-comparison BinaryOp.Greater = some Comparison.Greater
-comparison BinaryOp.GreaterEqual = some Comparison.GreaterEqual
-comparison BinaryOp.Less = some Comparison.Less
-comparison BinaryOp.LessEqual = some Comparison.LessEqual
+comparison BinaryOp.Add = None
+comparison BinaryOp.Subtract = None
+comparison BinaryOp.Multiply = None
+comparison BinaryOp.Divide = None
+comparison BinaryOp.Modulo = None
+comparison BinaryOp.Equal = Some Comparison.Equal
+comparison BinaryOp.NotEqual = Some Comparison.NotEqual
+comparison BinaryOp.Greater = Some Comparison.Greater
+comparison BinaryOp.GreaterEqual = Some Comparison.GreaterEqual
+comparison BinaryOp.Less = Some Comparison.Less
+comparison BinaryOp.LessEqual = Some Comparison.LessEqual
 
 -- The fused jumps, by the outcome of the test at which they jump: "In `lower_jump_if_false`, a < b becomes jump if b <= a"; "Mode 2 has [..]
 -- fused jumps of the test's own sense." In the KR jumps src2, the register, is declared before src1.

@@ -1,18 +1,16 @@
 -- The whole of lowering, and patching: what comes back, and what is left in the buffers.
-use Rattle.std.specs.Prelude.{ℕ, zero, suc, ◌*◌, List, [], ◌∷◌, Bool, cond, ◌&&◌, leb, ltb, length, get_or}
+use Rattle.std.specs.Prelude.{ℕ, zero, suc, ◌*◌, List, [], ◌∷◌, Bool, cond, ◌&&◌, leb, ltb, length, get_or, None}
 use Rattle.diagnostics.specs.declared.Refusal.{Refusal}
 use Rattle.diagnostics.specs.Refusal.{refusal_number}
-use Rattle.words.specs.Words.{words}
 use Rattle.words.specs.Records.{capacity}
 use Rattle.environment.specs.declared.Register.{Register}
 use Rattle.environment.specs.Environment.{parameters}
 use Rattle.runtime.specs.declared.instruction.Instruction.{Instruction}
 use Rattle.runtime.specs.Operands.{reg_of}
 use Rattle.runtime.specs.Instruction.{instruction_width, first_jump, last_jump}
-use Rattle.lowering.specs.declared.Dest.{Dest}
 use Rattle.lowering.specs.Tree.{Tree, tree_of}
 use Rattle.lowering.specs.Questions.{Verdict, passed, refused, questions}
-use Rattle.lowering.specs.Walk.{Made, made, Outcome, ends, stops, Walk, bind, ◌>>=◌, ◌>>◌, ret}
+use Rattle.lowering.specs.Walk.{Made, made, Outcome, ends, stops, Walk, ◌>>=◌, ◌>>◌, ret}
 use Rattle.lowering.specs.Steps.{free_temp, emit, patch_arguments, put_offset}
 use Rattle.lowering.specs.Lower.{lower_materializing, lower_expression, lower_jump_if_false, lower_jump_if_true}
 
@@ -46,7 +44,7 @@ begin code constants marks pooled arity = made code constants marks (record { re
 -- 2, which question 2 refuses, reads as 2.
 unfoldable pub lower_root : (Register → Walk Unit) → Tree → ℕ → ℕ → Walk ℕ
 lower_root give_back t zero root = do
-  src ← lower_materializing (lower_expression give_back t root) Dest.Any
+  src ← lower_materializing (lower_expression give_back t root) None
   emit (Instruction.Return (reg_of src))
   patch_arguments
   ret 0

@@ -1,13 +1,12 @@
 -- "The smallest free register is taken": lowering a node for which no register is asked takes the smallest free one.
-use Rattle.std.specs.Prelude.{ℕ, ◌<◌, ◌≡◌, true, false}
+use Rattle.std.specs.Prelude.{ℕ, ◌<◌, ◌≡◌, true, false, Option, None}
 use Rattle.environment.specs.declared.Register.{Register}
 use Rattle.environment.specs.declared.RegisterSet.{RegisterSet}
 use Rattle.environment.specs.Registers.{register_count, held}
 use Rattle.syntax.specs.declared.ast.Node.{Node}
 use Rattle.runtime.specs.declared.operand.Operand.{Operand}
-use Rattle.lowering.specs.declared.Dest.{Dest}
 use Rattle.lowering.specs.Tree.{Tree, node}
-use Rattle.lowering.specs.Walk.{Made, ends, Walk, bind, ◌>>◌, ret}
+use Rattle.lowering.specs.Walk.{Made, ends, Walk, ◌>>◌, ret}
 use Rattle.lowering.specs.Lower.{lower_materializing, lower_arguments}
 
 -- register r of the 256 is free, and every smaller one is held
@@ -17,7 +16,7 @@ pub record SmallestFree (s : RegisterSet) (r : ℕ) : Type 0 where
   pub smaller_held : (j : ℕ) → j < r → held s j ≡ true
 
 -- E lowers a node as an expression, J as a condition
-module _ (t : Tree) (E : ℕ → Dest → Walk Operand) (J : ℕ → Walk ℕ) where
+module _ (t : Tree) (E : ℕ → Option Register → Walk Operand) (J : ℕ → Walk ℕ) where
   -- what is done for node i before its register is taken: for an if its condition, for a call its arguments, for any other kind nothing
   unfoldable pub before_register : ℕ → Node → Walk Unit
   before_register i (Node.Number low high) = ret tt
@@ -44,4 +43,4 @@ module _ (t : Tree) (E : ℕ → Dest → Walk Operand) (J : ℕ → Walk ℕ) w
     pub smallest : SmallestFree when.state.registers r
 
   abbrev pub SmallestFirst : Type 0
-  SmallestFirst = (i r : ℕ) (m n : Made) → lower_materializing (E i) Dest.Any m ≡ ends (Register.Temp r) n → Took i r m
+  SmallestFirst = (i r : ℕ) (m n : Made) → lower_materializing (E i) None m ≡ ends (Register.Temp r) n → Took i r m

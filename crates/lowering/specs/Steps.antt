@@ -1,11 +1,9 @@
 -- The steps that do not look at the tree: registers, code, constants, marks and patches.
-use Rattle.std.specs.Prelude.{ℕ, zero, suc, ◌+◌, ◌*◌, ◌-◌, List, [], ◌∷◌, cond, leb, eqb, get_or, set}
+use Rattle.std.specs.Prelude.{ℕ, zero, suc, ◌+◌, ◌*◌, ◌-◌, List, [], ◌∷◌, cond, leb, eqb, get_or, set, Option, Some, None, Result, Ok, Err}
 use Rattle.diagnostics.specs.declared.Refusal.{Refusal}
-use Rattle.diagnostics.specs.declared.Place.{Place}
 use Rattle.words.specs.Records.{Buffer, append, max_count}
 use Rattle.environment.specs.declared.Register.{Register}
 use Rattle.environment.specs.declared.RegisterSet.{RegisterSet}
-use Rattle.environment.specs.declared.Found.{Found}
 use Rattle.environment.specs.Registers.{max_register, held}
 use Rattle.environment.specs.Environment.{allocated, freed}
 use Rattle.runtime.specs.declared.instruction.Instruction.{Instruction}
@@ -13,17 +11,16 @@ use Rattle.runtime.specs.declared.operand.Operand.{Operand}
 use Rattle.runtime.specs.Operands.{reg_of}
 use Rattle.runtime.specs.Instruction.{instruction_width, has_destination, offset_word}
 use Rattle.runtime.specs.Function.{emit_instruction, store_constant}
-use Rattle.lowering.specs.declared.Dest.{Dest}
-use Rattle.lowering.specs.Walk.{Made, made, ends, stops, Walk, bind, ◌>>=◌, ◌>>◌, ret, error, unnamed}
+use Rattle.lowering.specs.Walk.{Made, made, ends, stops, Walk, ◌>>=◌, ◌>>◌, ret, error, unnamed}
 
 -- an index or a register that may be refused, with what is left
-unfoldable pub placed : Place → Walk ℕ
-placed (Place.At p) m = ends p m
-placed (Place.Refused refusal) m = stops (unnamed refusal) m
+unfoldable pub placed : Result ℕ Refusal → Walk ℕ
+placed (Ok p) m = ends p m
+placed (Err refusal) m = stops (unnamed refusal) m
 
-unfoldable pub registered : Found → Walk Register
-registered (Found.At r) m = ends r m
-registered (Found.Refused refusal) m = stops (unnamed refusal) m
+unfoldable pub registered : Result Register Refusal → Walk Register
+registered (Ok r) m = ends r m
+registered (Err refusal) m = stops (unnamed refusal) m
 
 -- what was made, with one part of it changed
 abbrev pub with_registers : RegisterSet → Made → Made
@@ -60,9 +57,9 @@ free_held (Register.Temp r) m = cond (held m.state.registers r) (free_temp (Regi
 free_held (Register.Local r) m = free_temp (Register.Local r) m
 
 -- the register asked for, else a temporary
-unfoldable pub destination : Dest → Walk Register
-destination (Dest.To r) = ret r
-destination Dest.Any = allocate_temp
+unfoldable pub destination : Option Register → Walk Register
+destination (Some r) = ret r
+destination None = allocate_temp
 
 -- `emit_instruction`: the place of the new instruction, or 13
 unfoldable pub emit : Instruction → Walk ℕ
@@ -77,7 +74,7 @@ store c m =
     placed after.answer.place (with_constants after.words after.answer.count m)
 
 -- a constant in a register: "destination, pool, LoadConst"
-unfoldable pub load_constant : Operand → Dest → Walk Register
+unfoldable pub load_constant : Operand → Option Register → Walk Register
 load_constant c dest = do
   d ← destination dest
   k ← store c

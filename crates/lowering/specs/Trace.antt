@@ -1,7 +1,6 @@
 -- The walk as a run of steps. A derivation of `Runs` follows the do-blocks of the definition: every step of them is one of the nine below, made
 -- under its condition, or a refusal whose own condition holds where it stopped.
-use Rattle.std.specs.Prelude.{ℕ, ◌+◌, ◌*◌, ◌-◌, ◌≤◌, ◌<◌, ◌≡◌, ◌≢◌, ◌⊎◌, true, false, cond, [], ◌∷◌, eqb, length, get_or, set}
-use Rattle.std.proofs.Math.Option.{Option, none, some}
+use Rattle.std.specs.Prelude.{ℕ, ◌+◌, ◌*◌, ◌-◌, ◌≤◌, ◌<◌, ◌≡◌, ◌≢◌, ◌⊎◌, true, false, cond, [], ◌∷◌, eqb, length, get_or, set, Option, Some, None}
 use Rattle.diagnostics.specs.declared.Error.{Error}
 use Rattle.diagnostics.specs.declared.Refusal.{Refusal}
 use Rattle.words.specs.Records.{capacity, record_at, put_record, max_count}
@@ -62,21 +61,21 @@ Marked m = (k : ℕ) → k < marks_of m → get_or m.marks k 0 < instructions_of
 -- the constant that lowering a node may pool: a literal itself, the name of a name or of a property as a string, the nil of a block without a
 -- tail; a node of another kind has none of its own
 unfoldable pub constant_of_node : Node → Option Operand
-constant_of_node (Node.Number low high) = some (Operand.Number (number_of low high))
-constant_of_node (Node.String symbol) = some (Operand.String symbol)
-constant_of_node (Node.Boolean b) = some (Operand.Boolean b)
-constant_of_node Node.Nil = some Operand.Nil
-constant_of_node (Node.Identifier symbol) = some (Operand.String symbol)
-constant_of_node (Node.Binary operator left right) = none
-constant_of_node (Node.Unary operator operand) = none
-constant_of_node (Node.LogicalNot operand) = none
-constant_of_node (Node.LogicalAnd left right) = none
-constant_of_node (Node.LogicalOr left right) = none
-constant_of_node (Node.If condition then_branch else_branch) = none
-constant_of_node (Node.Block tail) = cond (eqb tail absent) (some Operand.Nil) none
-constant_of_node (Node.FunctionCall callee start count) = none
-constant_of_node (Node.PropertyAccess object property) = some (Operand.String property)
-constant_of_node (Node.Map start count) = none
+constant_of_node (Node.Number low high) = Some (Operand.Number (number_of low high))
+constant_of_node (Node.String symbol) = Some (Operand.String symbol)
+constant_of_node (Node.Boolean b) = Some (Operand.Boolean b)
+constant_of_node Node.Nil = Some Operand.Nil
+constant_of_node (Node.Identifier symbol) = Some (Operand.String symbol)
+constant_of_node (Node.Binary operator left right) = None
+constant_of_node (Node.Unary operator operand) = None
+constant_of_node (Node.LogicalNot operand) = None
+constant_of_node (Node.LogicalAnd left right) = None
+constant_of_node (Node.LogicalOr left right) = None
+constant_of_node (Node.If condition then_branch else_branch) = None
+constant_of_node (Node.Block tail) = cond (eqb tail absent) (Some Operand.Nil) None
+constant_of_node (Node.FunctionCall callee start count) = None
+constant_of_node (Node.PropertyAccess object property) = Some (Operand.String property)
+constant_of_node (Node.Map start count) = None
 
 module _ (t : Tree) (root : ℕ) where
   -- a refusal that names a node, with its span: "place, span: the name; likewise at 11, 12 and 15"
@@ -87,7 +86,7 @@ module _ (t : Tree) (root : ℕ) where
   pub record Owned (c : Operand) : Type 0 where
     pub owner : ℕ
     pub reached : Reaches t root owner
-    pub its : constant_of_node (node t owner) ≡ some c
+    pub its : constant_of_node (node t owner) ≡ Some c
 
   -- Refusals 9 to 18, each with its place and span, under its own condition: the condition speaks of what was made when the walk stopped.
   pub data Own : Error → Made → Type 0 where
@@ -100,7 +99,7 @@ module _ (t : Tree) (root : ℕ) where
     without_else : {m : Made} {i condition then_branch : ℕ} → Reaches t root i → node t i ≡ Node.If condition then_branch absent → Own (at_node Refusal.Else i) m
     -- 12: the key of entry k of a map is no name, and the entry has no value
     no_value : {m : Made} {i start count : ℕ} (k : ℕ) → Reaches t root i → node t i ≡ Node.Map start count → k < count →
-        name_of (node t (get_or t.list (start + 2 * k) 0)) ≡ none → get_or t.list (start + 2 * k + 1) 0 ≡ absent →
+        name_of (node t (get_or t.list (start + 2 * k) 0)) ≡ None → get_or t.list (start + 2 * k + 1) 0 ≡ absent →
         Own (at_node Refusal.Key (get_or t.list (start + 2 * k) 0)) m
     -- 13: the code buffer has no whole record left, or 1,048,576 instructions are made
     code : {m : Made} → (capacity instruction_width m.code ≤ instructions_of m) ⊎ (max_instructions ≤ instructions_of m) → Own (unnamed Refusal.Code) m

@@ -1,7 +1,7 @@
-// What the definition of lowering and the walk share: the state that goes by value, and where a value is to go.
+// What the definition of lowering and the walk share: the state that goes by value.
 #![tactic(auto)]
 
-use environment::{Register, RegisterSet};
+use environment::RegisterSet;
 
 // The eight numbers that come back, a word each.
 pub const RESULT_WORDS: usize = 8;
@@ -13,11 +13,4 @@ pub struct State {
     pub instructions: u32,
     pub constants: u32,
     pub marks: u32,
-}
-
-// The register that is to hold a value, if one is asked for.
-#[derive(Clone, Copy)]
-pub enum Dest {
-    Any,
-    To(Register),
 }

@@ -1,15 +1,15 @@
 -- `is_comparison` is true of the operators that have a comparison, and of no other. Assumes nothing.
-use mathlib.Core.Path.{◌≡◌, refl, sym, ap, ◌∙◌}
+use Rattle.std.specs.Prelude.{Option, Some, None}
+use mathlib.Core.Path.{◌≡◌, refl, sym, ◌∙◌}
 use mathlib.Core.Bool.{Bool, true, false, true≢false, false≢true}
-use mathlib.Core.Option.{Option, none, some}
 use Rattle.syntax.specs.declared.ops.BinaryOp.{BinaryOp}
 use Rattle.syntax.specs.declared.ops.Comparison.{Comparison}
 use Rattle.lowering.specs.Operators.{comparison}
 use Rattle.operators.specs.Opcodes.{is_comparison}
 
 abbrev is_some : Option Comparison → Bool
-is_some none = false
-is_some (some c) = true
+is_some None = false
+is_some (Some c) = true
 
 compares_is_some : (op : BinaryOp) → is_comparison op ≡ is_some (comparison op)
 unfolding is_comparison comparison
@@ -25,19 +25,16 @@ compares_is_some BinaryOp.GreaterEqual = refl
 compares_is_some BinaryOp.Less = refl
 compares_is_some BinaryOp.LessEqual = refl
 
-some_of : (o : Option Comparison) → is_some o ≡ true → (c : Comparison) × (o ≡ some c)
-some_of none e = absurd (false≢true e)
-some_of (some c) e = (c, refl)
+some_of : (o : Option Comparison) → is_some o ≡ true → (c : Comparison) × (o ≡ Some c)
+some_of None e = absurd (false≢true e)
+some_of (Some c) e = (c, refl)
 
-none_of : (o : Option Comparison) → is_some o ≡ false → o ≡ none
-none_of none e = refl
-none_of (some c) e = absurd (true≢false e)
+none_of : (o : Option Comparison) → is_some o ≡ false → o ≡ None
+none_of None e = refl
+none_of (Some c) e = absurd (true≢false e)
 
-pub compares_some : (op : BinaryOp) → is_comparison op ≡ true → (c : Comparison) × (comparison op ≡ some c)
+pub compares_some : (op : BinaryOp) → is_comparison op ≡ true → (c : Comparison) × (comparison op ≡ Some c)
 compares_some op e = some_of (comparison op) (sym (compares_is_some op) ∙ e)
 
-pub compares_none : (op : BinaryOp) → is_comparison op ≡ false → comparison op ≡ none
+pub compares_none : (op : BinaryOp) → is_comparison op ≡ false → comparison op ≡ None
 compares_none op e = none_of (comparison op) (sym (compares_is_some op) ∙ e)
-
-pub some_compares : (op : BinaryOp) {c : Comparison} → comparison op ≡ some c → is_comparison op ≡ true
-some_compares op e = compares_is_some op ∙ ap is_some e

@@ -3,214 +3,217 @@
 // goes right." The arms stand in the order of kaori's lower_expression.rs and lower_ast.rs.
 #![tactic(auto)]
 
-ghost use Rattle.std.specs.Prelude.{ℕ, ◌≡◌, [], ◌∷◌};
-ghost use Rattle.std.proofs.Math.Option.{some};
+ghost use Rattle.std.specs.Prelude.{ℕ, ◌≡◌, [], ◌∷◌, Some};
 ghost use Rattle.syntax.specs.declared.ops.Comparison.{Comparison};
-ghost use Rattle.syntax.specs.Ops.{binary_op, unary_op};
 ghost use Rattle.runtime.specs.Instruction.{words_of};
+ghost use Rattle.runtime.specs.Opcode.{opcode_number};
 ghost use Rattle.lowering.specs.Operators.{binary_rr, binary_rk, binary_kr, unary, comparison, jump_rr, jump_rk, jump_kr, jump_if};
 ghost use Rattle.operators.specs.Opcodes.{swaps, swaps_kr, jump_swaps, first_of, second_of, is_comparison};
 
-use runtime::opcode;
-use syntax::operator;
+use runtime::opcode::Opcode;
+use syntax::ops::{BinaryOp, UnaryOp};
 
 // Greater swaps the operands.
-#[tactic(auto, using(crate::proofs::Words::past), unfolding(runtime::specs::Instruction::words_of, syntax::specs::Ops::binary_op, lowering::specs::Operators::binary_rr, crate::specs::Opcodes::swaps))]
-pub fn binary_rr(operator: u32) -> u32
-    ensures { (d a b : ℕ) → words_of (binary_rr (binary_op operator) d a b)
-        ≡ result ∷ d ∷ first_of (swaps (binary_op operator)) a b ∷ second_of (swaps (binary_op operator)) a b ∷ [] }
+#[tactic(auto, unfolding(runtime::specs::Instruction::words_of, lowering::specs::Operators::binary_rr, crate::specs::Opcodes::swaps))]
+pub fn binary_rr(operator: BinaryOp) -> Opcode
+    ensures { (d a b : ℕ) → words_of (binary_rr operator d a b)
+        ≡ opcode_number result ∷ d ∷ first_of (swaps operator) a b ∷ second_of (swaps operator) a b ∷ [] }
 {
     match operator {
-        operator::ADD => opcode::ADD,
-        operator::SUBTRACT => opcode::SUBTRACT,
-        operator::MULTIPLY => opcode::MULTIPLY,
-        operator::DIVIDE => opcode::DIVIDE,
-        operator::MODULO => opcode::MODULO,
-        operator::EQUAL => opcode::EQUAL,
-        operator::NOT_EQUAL => opcode::NOT_EQUAL,
-        operator::LESS | operator::GREATER => opcode::LESS,
-        _ => opcode::LESS_EQUAL,
+        BinaryOp::Add => Opcode::Add,
+        BinaryOp::Subtract => Opcode::Subtract,
+        BinaryOp::Multiply => Opcode::Multiply,
+        BinaryOp::Divide => Opcode::Divide,
+        BinaryOp::Modulo => Opcode::Modulo,
+        BinaryOp::Equal => Opcode::Equal,
+        BinaryOp::NotEqual => Opcode::NotEqual,
+        BinaryOp::Less | BinaryOp::Greater => Opcode::Less,
+        BinaryOp::LessEqual | BinaryOp::GreaterEqual => Opcode::LessEqual,
     }
 }
 
 // Greater swaps the operands: the constant comes first.
-#[tactic(auto, using(crate::proofs::Words::past), unfolding(runtime::specs::Instruction::words_of, syntax::specs::Ops::binary_op, lowering::specs::Operators::binary_rk, crate::specs::Opcodes::swaps))]
-pub fn binary_rk(operator: u32) -> u32
-    ensures { (d a k : ℕ) → words_of (binary_rk (binary_op operator) d a k)
-        ≡ result ∷ d ∷ first_of (swaps (binary_op operator)) a k ∷ second_of (swaps (binary_op operator)) a k ∷ [] }
+#[tactic(auto, unfolding(runtime::specs::Instruction::words_of, lowering::specs::Operators::binary_rk, crate::specs::Opcodes::swaps))]
+pub fn binary_rk(operator: BinaryOp) -> Opcode
+    ensures { (d a k : ℕ) → words_of (binary_rk operator d a k)
+        ≡ opcode_number result ∷ d ∷ first_of (swaps operator) a k ∷ second_of (swaps operator) a k ∷ [] }
 {
     match operator {
-        operator::ADD => opcode::ADD_K,
-        operator::SUBTRACT => opcode::SUBTRACT_RK,
-        operator::MULTIPLY => opcode::MULTIPLY_K,
-        operator::DIVIDE => opcode::DIVIDE_RK,
-        operator::MODULO => opcode::MODULO_RK,
-        operator::EQUAL => opcode::EQUAL_K,
-        operator::NOT_EQUAL => opcode::NOT_EQUAL_K,
-        operator::LESS => opcode::LESS_RK,
-        operator::GREATER => opcode::LESS_KR,
-        operator::GREATER_EQUAL => opcode::LESS_EQUAL_KR,
-        _ => opcode::LESS_EQUAL_RK,
+        BinaryOp::Add => Opcode::AddK,
+        BinaryOp::Subtract => Opcode::SubtractRK,
+        BinaryOp::Multiply => Opcode::MultiplyK,
+        BinaryOp::Divide => Opcode::DivideRK,
+        BinaryOp::Modulo => Opcode::ModuloRK,
+        BinaryOp::Equal => Opcode::EqualK,
+        BinaryOp::NotEqual => Opcode::NotEqualK,
+        BinaryOp::Less => Opcode::LessRK,
+        BinaryOp::Greater => Opcode::LessKR,
+        BinaryOp::GreaterEqual => Opcode::LessEqualKR,
+        BinaryOp::LessEqual => Opcode::LessEqualRK,
     }
 }
 
 // A constant on the left of add, multiply, equal, not-equal goes right.
-#[tactic(auto, using(crate::proofs::Words::past), unfolding(runtime::specs::Instruction::words_of, syntax::specs::Ops::binary_op, lowering::specs::Operators::binary_kr, crate::specs::Opcodes::swaps_kr))]
-pub fn binary_kr(operator: u32) -> u32
-    ensures { (d k b : ℕ) → words_of (binary_kr (binary_op operator) d k b)
-        ≡ result ∷ d ∷ first_of (swaps_kr (binary_op operator)) k b ∷ second_of (swaps_kr (binary_op operator)) k b ∷ [] }
+#[tactic(auto, unfolding(runtime::specs::Instruction::words_of, lowering::specs::Operators::binary_kr, crate::specs::Opcodes::swaps_kr))]
+pub fn binary_kr(operator: BinaryOp) -> Opcode
+    ensures { (d k b : ℕ) → words_of (binary_kr operator d k b)
+        ≡ opcode_number result ∷ d ∷ first_of (swaps_kr operator) k b ∷ second_of (swaps_kr operator) k b ∷ [] }
 {
     match operator {
-        operator::ADD => opcode::ADD_K,
-        operator::MULTIPLY => opcode::MULTIPLY_K,
-        operator::EQUAL => opcode::EQUAL_K,
-        operator::NOT_EQUAL => opcode::NOT_EQUAL_K,
-        operator::SUBTRACT => opcode::SUBTRACT_KR,
-        operator::DIVIDE => opcode::DIVIDE_KR,
-        operator::MODULO => opcode::MODULO_KR,
-        operator::LESS => opcode::LESS_KR,
-        operator::GREATER => opcode::LESS_RK,
-        operator::GREATER_EQUAL => opcode::LESS_EQUAL_RK,
-        _ => opcode::LESS_EQUAL_KR,
+        BinaryOp::Add => Opcode::AddK,
+        BinaryOp::Multiply => Opcode::MultiplyK,
+        BinaryOp::Equal => Opcode::EqualK,
+        BinaryOp::NotEqual => Opcode::NotEqualK,
+        BinaryOp::Subtract => Opcode::SubtractKR,
+        BinaryOp::Divide => Opcode::DivideKR,
+        BinaryOp::Modulo => Opcode::ModuloKR,
+        BinaryOp::Less => Opcode::LessKR,
+        BinaryOp::Greater => Opcode::LessRK,
+        BinaryOp::GreaterEqual => Opcode::LessEqualRK,
+        BinaryOp::LessEqual => Opcode::LessEqualKR,
     }
 }
 
 // Whether the operands of binary_rr and binary_rk are swapped.
-#[tactic(auto, using(crate::proofs::Words::swaps_word))]
-pub fn swaps(operator: u32) -> bool
-    ensures { result ≡ swaps (binary_op operator) }
+#[tactic(auto, unfolding(crate::specs::Opcodes::swaps))]
+pub fn swaps(operator: BinaryOp) -> bool
+    ensures { result ≡ swaps operator }
 {
-    (operator == operator::GREATER) | (operator == operator::GREATER_EQUAL)
+    matches!(operator, BinaryOp::Greater | BinaryOp::GreaterEqual)
 }
 
 // Whether those of binary_kr are.
-#[tactic(auto, using(crate::proofs::Words::past), unfolding(syntax::specs::Ops::binary_op, crate::specs::Opcodes::swaps_kr))]
-pub fn swaps_kr(operator: u32) -> bool
-    ensures { result ≡ swaps_kr (binary_op operator) }
+#[tactic(auto, unfolding(crate::specs::Opcodes::swaps_kr))]
+pub fn swaps_kr(operator: BinaryOp) -> bool
+    ensures { result ≡ swaps_kr operator }
 {
     match operator {
-        operator::ADD | operator::MULTIPLY => true,
-        operator::EQUAL | operator::NOT_EQUAL => true,
-        operator::GREATER | operator::GREATER_EQUAL => true,
+        BinaryOp::Add | BinaryOp::Multiply => true,
+        BinaryOp::Equal | BinaryOp::NotEqual => true,
+        BinaryOp::Greater | BinaryOp::GreaterEqual => true,
         _ => false,
     }
 }
 
 // The opcode of a unary operator.
-#[tactic(auto, using(syntax::proofs::Tables::get_or_past), unfolding(runtime::specs::Instruction::words_of, syntax::specs::Ops::unary_op, lowering::specs::Operators::unary))]
-pub fn unary(operator: u32) -> u32
-    ensures { (d a : ℕ) → words_of (unary (unary_op operator) d a) ≡ result ∷ d ∷ a ∷ 0 ∷ [] }
+#[tactic(auto, unfolding(runtime::specs::Instruction::words_of, lowering::specs::Operators::unary))]
+pub fn unary(operator: UnaryOp) -> Opcode
+    ensures { (d a : ℕ) → words_of (unary operator d a) ≡ opcode_number result ∷ d ∷ a ∷ 0 ∷ [] }
 {
-    if operator == operator::NEGATE {
-        opcode::NEGATE
-    } else {
-        opcode::DEREF
+    match operator {
+        UnaryOp::Negate => Opcode::Negate,
+        UnaryOp::Deref => Opcode::Deref,
     }
 }
 
 // Six of the operators compare.
-#[tactic(auto, using(crate::proofs::Words::compares_word))]
-pub fn is_comparison(operator: u32) -> bool
-    ensures { result ≡ is_comparison (binary_op operator) }
+#[tactic(auto, unfolding(crate::specs::Opcodes::is_comparison))]
+pub fn is_comparison(operator: BinaryOp) -> bool
+    ensures { result ≡ is_comparison operator }
 {
-    operator::EQUAL <= operator
+    match operator {
+        BinaryOp::Add | BinaryOp::Subtract => false,
+        BinaryOp::Multiply | BinaryOp::Divide => false,
+        BinaryOp::Modulo => false,
+        _ => true,
+    }
 }
 
 // The jump that is taken where the comparison gives `sense`.
-#[tactic(auto, using(crate::proofs::Words::past, crate::proofs::Words::first_comparison), unfolding(runtime::specs::Instruction::words_of, syntax::specs::Ops::binary_op, lowering::specs::Operators::comparison, lowering::specs::Operators::jump_rr, crate::specs::Opcodes::jump_swaps))]
-pub fn jump_rr(sense: bool, operator: u32) -> u32
-    ensures { (c : Comparison) → comparison (binary_op operator) ≡ some c → (a b : ℕ)
-        → words_of (jump_rr sense c a b) ≡ result ∷ first_of (jump_swaps sense c) a b ∷ second_of (jump_swaps sense c) a b ∷ 0 ∷ [] }
+#[tactic(auto, unfolding(runtime::specs::Instruction::words_of, lowering::specs::Operators::comparison, lowering::specs::Operators::jump_rr, crate::specs::Opcodes::jump_swaps))]
+pub fn jump_rr(sense: bool, operator: BinaryOp) -> Opcode
+    ensures { (c : Comparison) → comparison operator ≡ Some c → (a b : ℕ)
+        → words_of (jump_rr sense c a b) ≡ opcode_number result ∷ first_of (jump_swaps sense c) a b ∷ second_of (jump_swaps sense c) a b ∷ 0 ∷ [] }
 {
     if sense {
         match operator {
-            operator::EQUAL => opcode::JUMP_IF_EQUAL,
-            operator::NOT_EQUAL => opcode::JUMP_IF_NOT_EQUAL,
-            operator::LESS | operator::GREATER => opcode::JUMP_IF_LESS,
-            _ => opcode::JUMP_IF_LESS_EQUAL,
+            BinaryOp::Equal => Opcode::JumpIfEqual,
+            BinaryOp::NotEqual => Opcode::JumpIfNotEqual,
+            BinaryOp::Less | BinaryOp::Greater => Opcode::JumpIfLess,
+            _ => Opcode::JumpIfLessEqual,
         }
     } else {
         match operator {
-            operator::EQUAL => opcode::JUMP_IF_NOT_EQUAL,
-            operator::NOT_EQUAL => opcode::JUMP_IF_EQUAL,
-            operator::LESS | operator::GREATER => opcode::JUMP_IF_LESS_EQUAL,
-            _ => opcode::JUMP_IF_LESS,
+            BinaryOp::Equal => Opcode::JumpIfNotEqual,
+            BinaryOp::NotEqual => Opcode::JumpIfEqual,
+            BinaryOp::Less | BinaryOp::Greater => Opcode::JumpIfLessEqual,
+            _ => Opcode::JumpIfLess,
         }
     }
 }
 
 // The same of a register and a constant, in this order.
-#[tactic(auto, using(crate::proofs::Words::past, crate::proofs::Words::first_comparison), unfolding(runtime::specs::Instruction::words_of, syntax::specs::Ops::binary_op, lowering::specs::Operators::comparison, lowering::specs::Operators::jump_rk))]
-pub fn jump_rk(sense: bool, operator: u32) -> u32
-    ensures { (c : Comparison) → comparison (binary_op operator) ≡ some c → (a k : ℕ) → words_of (jump_rk sense c a k) ≡ result ∷ a ∷ k ∷ 0 ∷ [] }
+#[tactic(auto, unfolding(runtime::specs::Instruction::words_of, lowering::specs::Operators::comparison, lowering::specs::Operators::jump_rk))]
+pub fn jump_rk(sense: bool, operator: BinaryOp) -> Opcode
+    ensures { (c : Comparison) → comparison operator ≡ Some c → (a k : ℕ) → words_of (jump_rk sense c a k) ≡ opcode_number result ∷ a ∷ k ∷ 0 ∷ [] }
 {
     if sense {
         match operator {
-            operator::EQUAL => opcode::JUMP_IF_EQUAL_K,
-            operator::NOT_EQUAL => opcode::JUMP_IF_NOT_EQUAL_K,
-            operator::LESS => opcode::JUMP_IF_LESS_RK,
-            operator::GREATER => opcode::JUMP_IF_LESS_KR,
-            operator::GREATER_EQUAL => opcode::JUMP_IF_LESS_EQUAL_KR,
-            _ => opcode::JUMP_IF_LESS_EQUAL_RK,
+            BinaryOp::Equal => Opcode::JumpIfEqualK,
+            BinaryOp::NotEqual => Opcode::JumpIfNotEqualK,
+            BinaryOp::Less => Opcode::JumpIfLessRK,
+            BinaryOp::Greater => Opcode::JumpIfLessKR,
+            BinaryOp::GreaterEqual => Opcode::JumpIfLessEqualKR,
+            _ => Opcode::JumpIfLessEqualRK,
         }
     } else {
         match operator {
-            operator::EQUAL => opcode::JUMP_IF_NOT_EQUAL_K,
-            operator::NOT_EQUAL => opcode::JUMP_IF_EQUAL_K,
-            operator::LESS => opcode::JUMP_IF_LESS_EQUAL_KR,
-            operator::GREATER => opcode::JUMP_IF_LESS_EQUAL_RK,
-            operator::GREATER_EQUAL => opcode::JUMP_IF_LESS_RK,
-            _ => opcode::JUMP_IF_LESS_KR,
+            BinaryOp::Equal => Opcode::JumpIfNotEqualK,
+            BinaryOp::NotEqual => Opcode::JumpIfEqualK,
+            BinaryOp::Less => Opcode::JumpIfLessEqualKR,
+            BinaryOp::Greater => Opcode::JumpIfLessEqualRK,
+            BinaryOp::GreaterEqual => Opcode::JumpIfLessRK,
+            _ => Opcode::JumpIfLessKR,
         }
     }
 }
 
 // The same of a constant and a register; their fields, too, are the register and then the constant.
-#[tactic(auto, using(crate::proofs::Words::past, crate::proofs::Words::first_comparison), unfolding(runtime::specs::Instruction::words_of, syntax::specs::Ops::binary_op, lowering::specs::Operators::comparison, lowering::specs::Operators::jump_kr))]
-pub fn jump_kr(sense: bool, operator: u32) -> u32
-    ensures { (c : Comparison) → comparison (binary_op operator) ≡ some c → (k b : ℕ) → words_of (jump_kr sense c k b) ≡ result ∷ b ∷ k ∷ 0 ∷ [] }
+#[tactic(auto, unfolding(runtime::specs::Instruction::words_of, lowering::specs::Operators::comparison, lowering::specs::Operators::jump_kr))]
+pub fn jump_kr(sense: bool, operator: BinaryOp) -> Opcode
+    ensures { (c : Comparison) → comparison operator ≡ Some c → (k b : ℕ) → words_of (jump_kr sense c k b) ≡ opcode_number result ∷ b ∷ k ∷ 0 ∷ [] }
 {
     if sense {
         match operator {
-            operator::EQUAL => opcode::JUMP_IF_EQUAL_K,
-            operator::NOT_EQUAL => opcode::JUMP_IF_NOT_EQUAL_K,
-            operator::LESS => opcode::JUMP_IF_LESS_KR,
-            operator::GREATER => opcode::JUMP_IF_LESS_RK,
-            operator::GREATER_EQUAL => opcode::JUMP_IF_LESS_EQUAL_RK,
-            _ => opcode::JUMP_IF_LESS_EQUAL_KR,
+            BinaryOp::Equal => Opcode::JumpIfEqualK,
+            BinaryOp::NotEqual => Opcode::JumpIfNotEqualK,
+            BinaryOp::Less => Opcode::JumpIfLessKR,
+            BinaryOp::Greater => Opcode::JumpIfLessRK,
+            BinaryOp::GreaterEqual => Opcode::JumpIfLessEqualRK,
+            _ => Opcode::JumpIfLessEqualKR,
         }
     } else {
         match operator {
-            operator::EQUAL => opcode::JUMP_IF_NOT_EQUAL_K,
-            operator::NOT_EQUAL => opcode::JUMP_IF_EQUAL_K,
-            operator::LESS => opcode::JUMP_IF_LESS_EQUAL_RK,
-            operator::GREATER => opcode::JUMP_IF_LESS_EQUAL_KR,
-            operator::GREATER_EQUAL => opcode::JUMP_IF_LESS_KR,
-            _ => opcode::JUMP_IF_LESS_RK,
+            BinaryOp::Equal => Opcode::JumpIfNotEqualK,
+            BinaryOp::NotEqual => Opcode::JumpIfEqualK,
+            BinaryOp::Less => Opcode::JumpIfLessEqualRK,
+            BinaryOp::Greater => Opcode::JumpIfLessEqualKR,
+            BinaryOp::GreaterEqual => Opcode::JumpIfLessKR,
+            _ => Opcode::JumpIfLessRK,
         }
     }
 }
 
 // Whether the operands of jump_rr are swapped.
-#[tactic(auto, using(crate::proofs::Words::past, crate::proofs::Words::first_comparison), unfolding(syntax::specs::Ops::binary_op, lowering::specs::Operators::comparison, crate::specs::Opcodes::jump_swaps))]
-pub fn jump_swaps(sense: bool, operator: u32) -> bool
-    ensures { (c : Comparison) → comparison (binary_op operator) ≡ some c → result ≡ jump_swaps sense c }
+#[tactic(auto, unfolding(lowering::specs::Operators::comparison, crate::specs::Opcodes::jump_swaps))]
+pub fn jump_swaps(sense: bool, operator: BinaryOp) -> bool
+    ensures { (c : Comparison) → comparison operator ≡ Some c → result ≡ jump_swaps sense c }
 {
     match operator {
-        operator::EQUAL | operator::NOT_EQUAL => false,
-        operator::GREATER | operator::GREATER_EQUAL => sense,
+        BinaryOp::Equal | BinaryOp::NotEqual => false,
+        BinaryOp::Greater | BinaryOp::GreaterEqual => sense,
         _ => !sense,
     }
 }
 
 // The jump that is taken where the register tests as `sense`.
 #[tactic(auto, unfolding(runtime::specs::Instruction::words_of, lowering::specs::Operators::jump_if))]
-pub fn jump_if(sense: bool) -> u32
-    ensures { (a : ℕ) → words_of (jump_if sense a) ≡ result ∷ a ∷ 0 ∷ 0 ∷ [] }
+pub fn jump_if(sense: bool) -> Opcode
+    ensures { (a : ℕ) → words_of (jump_if sense a) ≡ opcode_number result ∷ a ∷ 0 ∷ 0 ∷ [] }
 {
     if sense {
-        opcode::JUMP_IF_TRUE
+        Opcode::JumpIfTrue
     } else {
-        opcode::JUMP_IF_FALSE
+        Opcode::JumpIfFalse
     }
 }

@@ -50,11 +50,11 @@ module _ (count i : ℕ) (m : Made) where
     left : count - i ≡ suc (count - (i + 1))
     left = omega arith
 
-    pub marks_done : (after : Made) → patch_argument (get_or m.marks i 0) m ≡ ends tt after
-        → patch_marks (count - i) i m ≡ patch_marks (count - (i + 1)) (i + 1) after
-    unfolding patch_marks bind
-    marks_done after e = rw (left, e, add-one)
+    module _ {place : ℕ} (read : place ≡ get_or m.marks i 0) where
+      pub marks_done : (after : Made) → patch_argument place m ≡ ends tt after → patch_marks (count - i) i m ≡ patch_marks (count - (i + 1)) (i + 1) after
+      unfolding patch_marks bind
+      marks_done after e = rw (left, ← read, e, add-one)
 
-    pub marks_refused : (e : Error) (after : Made) → patch_argument (get_or m.marks i 0) m ≡ stops e after → patch_marks (count - i) i m ≡ stops e after
-    unfolding patch_marks bind
-    marks_refused e after p = rw (left, p)
+      pub marks_refused : (e : Error) (after : Made) → patch_argument place m ≡ stops e after → patch_marks (count - i) i m ≡ stops e after
+      unfolding patch_marks bind
+      marks_refused e after p = rw (left, ← read, p)

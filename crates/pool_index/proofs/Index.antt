@@ -1,5 +1,6 @@
 -- What the pool's index does: a constant that is put into it is found, any other is found as before, and so the pool, as its searches see it, is as if it had
 -- no index. Assumes nothing.
+use Rattle.std.specs.Prelude.{Ok, Err}
 use Prim.Native.Nat.{ℕ, zero, suc, ◌+◌, ◌*◌, ◌-◌, ◌≤◌, ◌<◌}
 use native.Mathlib.Omega.{arith}
 use native.Mathlib.Decide.{ℕ_discrete, dec_lt}
@@ -15,18 +16,18 @@ use lib.Seq.{get_or-set_same, get_or-set_other}
 use borrow.Author.Tests.{ltb-true, leb-true, lt-ltb, le-ltb, le-leb, lt-leb, eq-eqb, ne_eqb}
 use Rattle.std.proofs.lemmas.Bool.{and_parts}
 use Rattle.diagnostics.specs.declared.Refusal.{Refusal}
-use Rattle.diagnostics.specs.declared.Place.{Place}
 use Rattle.words.specs.Words.{words}
-use Rattle.words.specs.Records.{full, max_count, capacity, record_at, put_record, is_at, position_from, position, buffer, append, appended}
+use Rattle.words.specs.Records.{max_count, capacity, record_at, put_record, is_at, position_from, position, buffer, append}
 use Rattle.pool_index.specs.Hidden.{hide}
-use Rattle.words.proofs.Records.{record_same, record_other, record_word, append_room, append_full, append_limit, appended_found}
-use Rattle.pool_index.proofs.Records.{first, answered_at, answered_full}
+use Rattle.words.proofs.Search.{first}
+use Rattle.words.proofs.Records.{record_same, record_other, record_word, append_room, append_full, append_limit}
+use Rattle.pool_index.proofs.Records.{appended_found, answered_at, answered_full}
 use Rattle.pool_index.proofs.Hiding.{none_hidden, hide_capacity, found_position, none_position, findable_put}
 use Rattle.pool_index.proofs.Positions.{put_at, put_here, put_not_here, put_found, put_none, put_new}
 use Rattle.runtime.specs.declared.operand.Operand.{Operand}
 use Rattle.runtime.specs.Value.{constant_width, constant_words}
 use Rattle.runtime.specs.Function.{store_constant}
-use Rattle.pool_index.specs.Index.{slots, links, slot_of, chained, linked, find, indexed, blank, pool_of}
+use Rattle.pool_index.specs.Index.{full, appended, slots, links, slot_of, chained, linked, find, indexed, blank, pool_of}
 use Rattle.runtime.proofs.Constants.{constant_width_lem}
 use Rattle.runtime.proofs.Pool.{store_pooled, store_new}
 
@@ -525,20 +526,20 @@ module _ (constants index : List ℕ) (count : ℕ) (few : count ≤ full) (c : 
 
     made : count < max_count → count < capacity constant_width (words constants) → Left
     made l h =
-        let done : buffer (words constants') (appended count p Refusal.Constants) ≡ buffer (put_record constant_width (words constants) count r) (record { count = count + 1; place = Place.At count })
+        let done : buffer (words constants') (appended count p Refusal.Constants) ≡ buffer (put_record constant_width (words constants) count r) (record { count = count + 1; place = Ok count })
         = left ∙ rw long at (append_room (words constants) count max_count r Refusal.Constants l (rw long h)) in
-        let answer : appended count p Refusal.Constants ≡ record { count = count + 1; place = Place.At count } = ap (λ b. b.answer) done in
+        let answer : appended count p Refusal.Constants ≡ record { count = count + 1; place = Ok count } = ap (λ b. b.answer) done in
         let here : p ≡ count = answered_at count p Refusal.Constants (ap (λ a. a.place) answer) in
         let put : pool_of constants' (indexed index count (slot_of r)) (count + 1) ≡ put_record constant_width pool count r
         = rw (add-one count) (pool_put constants index count r long shown constants' l h size (ap (λ b. b.words) done) absent) in
         let room : count < capacity (length r) pool = rw (long, pool_capacity constants index count constant_width) h in
         rw (answer, here, put) (sym (stored ∙ rw long at (append_room pool count max_count r Refusal.Constants l room)))
 
-    refused : append (words constants) count max_count r Refusal.Constants ≡ buffer (words constants) (record { count = count; place = Place.Refused Refusal.Constants }) →
-        append pool count max_count r Refusal.Constants ≡ buffer pool (record { count = count; place = Place.Refused Refusal.Constants }) → Left
+    refused : append (words constants) count max_count r Refusal.Constants ≡ buffer (words constants) (record { count = count; place = Err Refusal.Constants }) →
+        append pool count max_count r Refusal.Constants ≡ buffer pool (record { count = count; place = Err Refusal.Constants }) → Left
     unfolding pool_of indexed
     refused a b =
-        let answer : appended count p Refusal.Constants ≡ record { count = count; place = Place.Refused Refusal.Constants } = ap (λ x. x.answer) (left ∙ a) in
+        let answer : appended count p Refusal.Constants ≡ record { count = count; place = Err Refusal.Constants } = ap (λ x. x.answer) (left ∙ a) in
         let same : words constants' ≡ words constants = ap (λ x. x.words) (left ∙ a) in
         rw (answer, answered_full count p Refusal.Constants (ap (λ x. x.place) answer), same) (sym (stored ∙ b))
 

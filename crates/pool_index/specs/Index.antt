@@ -1,8 +1,10 @@
 -- The pool's index: for a constant's words, where a search looks. A search that the index misleads passes a constant over, so the pool is said as its searches
 -- see it: a constant that is not found for its own words is hidden. Nothing is asked of an index.
-use Rattle.std.specs.Prelude.{ℕ, zero, suc, ◌+◌, ◌*◌, ◌-◌, ◌/◌, ◌%◌, cond, ◌&&◌, List, [], ◌∷◌, leb, ltb, eqb, get_or, set}
+use Rattle.std.specs.Prelude.{ℕ, zero, suc, ◌+◌, ◌*◌, ◌-◌, ◌/◌, ◌%◌, cond, ◌&&◌, List, [], ◌∷◌, leb, ltb, eqb, get_or, set, Ok, Err}
 use Rattle.words.specs.Words.{word_end, words}
-use Rattle.words.specs.Records.{full, record_at, is_at, position_from}
+use Rattle.diagnostics.specs.declared.Refusal.{Refusal}
+use Rattle.words.specs.declared.Appended.{Appended}
+use Rattle.words.specs.Records.{record_at, is_at, position_from}
 use Rattle.pool_index.specs.Hidden.{findable}
 use Rattle.runtime.specs.Value.{constant_width}
 
@@ -16,6 +18,17 @@ links = 2048
 
 unfoldable pub slot_of : List ℕ → ℕ
 slot_of r = (get_or r 1 0 + get_or r 2 0) % word_end * 2654435761 / 4194304 % slots
+
+-- the largest word, where there is no place to give: nothing was found, or there was no room
+abbrev pub full : ℕ
+full = 4294967295
+
+-- an append's answer, read from one number: the place, or `full`; a record that was found, at a place below the count, is not counted again
+unfoldable pub appended : ℕ → ℕ → Refusal → Appended
+appended count place refusal =
+    cond (eqb place full)
+    (record { count = count; place = Err refusal })
+    (record { count = cond (eqb place count) (count + 1) count; place = Ok place })
 
 -- the place of r in a chain from `next` on, or `full`: each place is below the one before it, and a constant of another slot ends the chain
 unfoldable pub chained : List ℕ → List ℕ → List ℕ → ℕ → ℕ → ℕ → ℕ

@@ -1,15 +1,19 @@
--- The bytes of node i, a part of all nodes' bytes: it is inside them, and its words are the node's. Assumes nothing.
+-- The bytes of node i, a part of all nodes' bytes: it is inside them, its words are the node's, and they are what is asked. Assumes nothing.
 use mathlib.Core.Path.{◌≡◌, refl, sym, ◌∙◌}
 use mathlib.Core.List.{List}
 use Prim.Native.Nat.{ℕ, ◌+◌, ◌*◌, ◌-◌, ◌≤◌, ◌<◌}
 use native.Mathlib.Omega.{arith}
+use lib.Dec.{leb}
 use lib.ListN.{length, get_or, take, drop, length-take, length-drop}
 use lib.Seq.{get_or-take, get_or-drop}
+use Rattle.diagnostics.specs.declared.Refusal.{Refusal}
 use Rattle.words.specs.Words.{word_bytes, words}
 use Rattle.words.specs.Records.{capacity}
 use Rattle.words.proofs.Words.{length_words, word_in}
-use Rattle.syntax.specs.Ast.{node_width, node_word}
-use Rattle.questions.proofs.Asked.{NodeWords}
+use Rattle.syntax.specs.declared.ast.Node.{Node}
+use Rattle.syntax.specs.Ast.{node_width, node_kinds, node_word, node_at}
+use Rattle.lowering.specs.Tree.{tree_of, children}
+use Rattle.lowering.specs.Questions.{question3, question4, question5, question6, question7, all_below, Verdict, ask, ask_node}
 
 -- the bytes of a node
 abbrev node_size : ℕ
@@ -39,12 +43,16 @@ module _ (nodes : List ℕ) (i : ℕ) where
         (node_byte (word_bytes * k + 2) (word_bytes * (node_width * i + k) + 2) (omega arith) (omega arith))
         (node_byte (word_bytes * k + 3) (word_bytes * (node_width * i + k) + 3) (omega arith) (omega arith))
 
-    -- what is read off the part is what is asked
-    pub node_words : {kind a b c : ℕ} → kind ≡ get_or (words node_bytes) 0 0 → a ≡ get_or (words node_bytes) 1 0 → b ≡ get_or (words node_bytes) 2 0
-        → c ≡ get_or (words node_bytes) 3 0 → NodeWords (words nodes) i kind a b c
-    node_words e0 e1 e2 e3 = record {
-      word_kind = e0 ∙ node_word_lem 0 (omega arith);
-      word_a = e1 ∙ node_word_lem 1 (omega arith);
-      word_b = e2 ∙ node_word_lem 2 (omega arith);
-      word_c = e3 ∙ node_word_lem 3 (omega arith);
-    }
+    -- the questions of the node, by what is read off the part
+    pub asked_words : (list names : List ℕ) (next : Verdict) {kind a b c : ℕ} → kind ≡ get_or (words node_bytes) 0 0 → a ≡ get_or (words node_bytes) 1 0 → b ≡ get_or (words node_bytes) 2 0
+        → c ≡ get_or (words node_bytes) 3 0
+        → ask_node (tree_of nodes list names) i next
+        ≡ ask (leb kind 14) Refusal.Kind i
+        (ask (question4 kind a b c) Refusal.Unused i
+        (ask (question5 kind a b) Refusal.Number i
+        (ask (question6 (length (words list)) kind a b c) Refusal.List i
+        (ask (all_below i (children (words list) (get_or node_kinds kind (λ x y z. Node.Nil) a b c))) Refusal.Order i
+        next))))
+    unfolding question3 ask_node question7 node_at
+    asked_words list names next e0 e1 e2 e3 =
+        rw (e0, e1, e2, e3, node_word_lem 0 (omega arith), node_word_lem 1 (omega arith), node_word_lem 2 (omega arith), node_word_lem 3 (omega arith))

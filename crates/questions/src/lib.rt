@@ -2,17 +2,17 @@
 // `&&` stands where what follows costs more.
 #![tactic(auto)]
 
-ghost use Rattle.std.specs.Prelude.{◌≡◌, true, List, ℕ, ◌+◌, ◌*◌, ◌≤◌, ◌<◌, length, get_or, take, drop};
+ghost use Rattle.std.specs.Prelude.{◌≡◌, true, OnOk, leb, List, ℕ, ◌+◌, ◌*◌, ◌≤◌, ◌<◌, length, get_or, take, drop};
+ghost use Rattle.diagnostics.specs.declared.Refusal.{Refusal};
 ghost use Rattle.words.specs.Words.{words};
 ghost use Rattle.words.specs.Records.{capacity};
 ghost use Rattle.syntax.specs.declared.ast.Node.{Node};
 ghost use Rattle.syntax.specs.Ast.{node_kinds, node_width};
-ghost use Rattle.lowering.specs.Tree.{present, entry_nodes, children};
-ghost use Rattle.lowering.specs.Questions.{question1, question4, question5, question6, all_below, Verdict, ask_node, ask_nodes, questions};
-ghost use Rattle.lowering.specs.Tree.{tree_of};
+ghost use Rattle.lowering.specs.Tree.{present, entry_nodes, children, tree_of};
+ghost use Rattle.lowering.specs.Questions.{question1, question4, question5, question6, all_below, Verdict, ask, ask_node, ask_nodes, questions};
 ghost use Rattle.questions.specs.Verdict.{following, verdict};
 
-use diagnostics::Refusal;
+use diagnostics::{Refusal, Refused};
 use runtime::value::is_nan;
 use syntax::ast::{ABSENT, NODE_WORDS};
 use syntax::kind;
@@ -39,10 +39,16 @@ const LAST_UNARY_OP: u32 = 1;
 // The high word of minus zero, whose low word is 0.
 const MINUS_ZERO_HIGH: u32 = 0x8000_0000;
 
-#[derive(Drop)]
-pub enum CheckAnswer {
-    Passed,
-    Refused { refusal: Refusal, place: u32 },
+// One question: the answer no refuses.
+fn ask(answer: bool, refusal: Refusal, place: u32) -> Result<(), Refused>
+    ensures asked { (next : Verdict) → following result next ≡ ask answer refusal place next }
+    ensures yes { OnOk result (answer ≡ true) }
+{
+    if answer {
+        Ok(())
+    } else {
+        Err(Refused { refusal, place })
+    }
 }
 
 // 1: whether there are whole nodes, list words and names, and not too few or too many.
@@ -123,12 +129,10 @@ fn arguments_below(list: &[u8], i: u32, first: u32, count: u32) -> bool
     requires { first + count ≤ length (words list.now) }
     ensures { result ≡ all_below i (take count (drop first (words list.now))) }
 {
-    let mut k: u32 = 0;
-    while k < count {
+    for k in 0..count {
         if i <= word(list, (first as usize) + (k as usize)) {
             return false;
         }
-        k += 1;
     }
     true
 }
@@ -139,8 +143,7 @@ fn entries_below(list: &[u8], i: u32, first: u32, count: u32) -> bool
     requires { first + 2 * count ≤ length (words list.now) }
     ensures { result ≡ all_below i (entry_nodes (take (2 * count) (drop first (words list.now)))) }
 {
-    let mut k: u32 = 0;
-    while k < count {
+    for k in 0..count {
         let at = (first as usize) + 2 * (k as usize);
         if i <= word(list, at) {
             return false;
@@ -148,7 +151,6 @@ fn entries_below(list: &[u8], i: u32, first: u32, count: u32) -> bool
         if !absent_or_below(i, word(list, at + 1)) {
             return false;
         }
-        k += 1;
     }
     true
 }
@@ -174,10 +176,28 @@ fn children_below(list: &[u8], i: u32, kind: u32, a: u32, b: u32, c: u32) -> boo
     }
 }
 
-// Questions 3 to 7 of node i. Its words are read from its own bytes, a slice of known length: so the compiler leaves the test in `word` out. It also
-// makes one jump of the matches on the kind, so a node costs one jump and the comparisons of its kind, a call and a map too.
-#[tactic(auto, using(words::proofs::Words::length_words))]
-fn check_node(nodes: &[u8], list: &[u8], i: u32) -> CheckAnswer
+// Questions 3 to 7 of node i, by its words. The compiler makes one jump of the matches on the kind, so a node costs one jump and the comparisons of its kind, a
+// call and a map too.
+#[tactic(auto, using(words::proofs::Words::length_words, std::proofs::lemmas::Result::err_from_is_err_and))]
+fn check_words(list: &[u8], i: u32, kind: u32, a: u32, b: u32, c: u32) -> Result<(), Refused>
+    ensures { (next : Verdict) → following result next ≡ ask (leb kind 14) Refusal.Kind i
+        (ask (question4 kind a b c) Refusal.Unused i
+        (ask (question5 kind a b) Refusal.Number i
+        (ask (question6 (length (words list.now)) kind a b c) Refusal.List i
+        (ask (all_below i (children (words list.now) (get_or node_kinds kind (λ x y z. Node.Nil) a b c))) Refusal.Order i
+        next)))) }
+{
+    ask(kind <= LAST_KIND, Refusal::Kind, i)?;
+    ask(words_used(kind, a, b, c), Refusal::Unused, i)?;
+    ask(number_allowed(kind, a, b), Refusal::Number, i)?;
+    let size = list.len() / WORD_BYTES;
+    ask(part_inside(size, kind, a, b, c), Refusal::List, i)?;
+    ask(children_below(list, i, kind, a, b, c), Refusal::Order, i)
+}
+
+// Questions 3 to 7 of node i. Its words are read from its own bytes, a slice of known length: so the compiler leaves the test in `word` out.
+#[tactic(auto, using(words::proofs::Words::length_words, crate::proofs::Part::asked_words), unfolding(words::specs::Records::capacity))]
+fn check_node(nodes: &[u8], list: &[u8], i: u32) -> Result<(), Refused>
     requires { i < capacity node_width (words nodes.now) }
     ensures { (names : List ℕ) (next : Verdict) → following result next ≡ ask_node (tree_of nodes.now list.now names) i next }
 {
@@ -188,84 +208,30 @@ fn check_node(nodes: &[u8], list: &[u8], i: u32) -> CheckAnswer
     let a = word(node, 1);
     let b = word(node, 2);
     let c = word(node, 3);
-    if LAST_KIND < kind {
-        return CheckAnswer::Refused {
-            refusal: Refusal::Kind,
-            place: i,
-        };
-    }
-    if !words_used(kind, a, b, c) {
-        return CheckAnswer::Refused {
-            refusal: Refusal::Unused,
-            place: i,
-        };
-    }
-    if !number_allowed(kind, a, b) {
-        return CheckAnswer::Refused {
-            refusal: Refusal::Number,
-            place: i,
-        };
-    }
-    if !part_inside(list.len() / 4, kind, a, b, c) {
-        return CheckAnswer::Refused {
-            refusal: Refusal::List,
-            place: i,
-        };
-    }
-    if !children_below(list, i, kind, a, b, c) {
-        return CheckAnswer::Refused {
-            refusal: Refusal::Order,
-            place: i,
-        };
-    }
-    CheckAnswer::Passed
+    check_words(list, i, kind, a, b, c)
 }
 
 // Questions 3 to 7 of each of `count` nodes, lowest first.
 #[tactic(auto, using(crate::proofs::Asked::nodes_start, crate::proofs::Asked::nodes_next, crate::proofs::Asked::nodes_end))]
-fn check_nodes(nodes: &[u8], list: &[u8], count: u32) -> CheckAnswer
+fn check_nodes(nodes: &[u8], list: &[u8], count: u32) -> Result<(), Refused>
     requires { count ≤ capacity node_width (words nodes.now) }
     ensures { (names : List ℕ) (next : Verdict) → following result next ≡ ask_nodes (tree_of nodes.now list.now names) count 0 next }
 {
-    let mut i: u32 = 0;
-    while i < count {
-        let answer = check_node(nodes, list, i);
-        if let CheckAnswer::Refused { .. } = answer {
-            return answer;
-        }
-        i += 1;
+    for i in 0..count {
+        check_node(nodes, list, i)?;
     }
-    CheckAnswer::Passed
+    Ok(())
 }
 
 // All questions of a tree, a mode and a root.
-pub fn check(nodes: &[u8], list: &[u8], names: &[u8], mode: u32, root: u32) -> CheckAnswer
+#[tactic(auto, using(words::proofs::Words::length_words, lowering::proofs::Questions::Checked::question1_sizes, std::proofs::lemmas::Result::err_from_is_err_and), unfolding(lowering::specs::Questions::questions, lowering::specs::Questions::question2, lowering::specs::Questions::question8))]
+pub fn check(nodes: &[u8], list: &[u8], names: &[u8], mode: u32, root: u32) -> Result<(), Refused>
     ensures { verdict result ≡ questions nodes.now list.now names.now mode root }
 {
-    if !sizes_fit(nodes, list, names) {
-        return CheckAnswer::Refused {
-            refusal: Refusal::Size,
-            place: 0,
-        };
-    }
+    ask(sizes_fit(nodes, list, names), Refusal::Size, 0)?;
     let count = capacity(nodes, NODE_WORDS) as u32;
-    let root_inside = (mode <= LAST_MODE) & (root < count);
-    if !root_inside {
-        return CheckAnswer::Refused {
-            refusal: Refusal::Root,
-            place: 0,
-        };
-    }
-    let answer = check_nodes(nodes, list, count);
-    if let CheckAnswer::Refused { .. } = answer {
-        return answer;
-    }
-    let parameters_fit = names.len() / WORD_BYTES <= MAX_PARAMETERS;
-    if !parameters_fit {
-        return CheckAnswer::Refused {
-            refusal: Refusal::Parameters,
-            place: 0,
-        };
-    }
-    CheckAnswer::Passed
+    ask((mode <= LAST_MODE) & (root < count), Refusal::Root, 0)?;
+    check_nodes(nodes, list, count)?;
+    let parameters = names.len() / WORD_BYTES;
+    ask(parameters <= MAX_PARAMETERS, Refusal::Parameters, 0)
 }

@@ -1,7 +1,13 @@
 -- The eight numbers, by the word of the walk's answer. Assumes nothing.
-use Prim.Native.Nat.{ℕ, ◌≤◌}
+use Prim.Native.Nat.{ℕ, ◌≤◌, ◌<◌}
+use native.Mathlib.Decide.{dec_lt}
+use native.Mathlib.Omega.{arith}
+use lib.Dec.{eqb}
+use borrow.Author.Tests.{ne_eqb, eqb-true}
+use Rattle.std.specs.Prelude.{min, max}
+use Rattle.std.proofs.lemmas.Bool.{agree_below_at}
 use mathlib.Core.Path.{◌≡◌, refl}
-use mathlib.Core.Bool.{Bool, true, false, cond}
+use mathlib.Core.Bool.{Bool, true, false, cond, ◌||◌}
 use mathlib.Core.List.{[], ◌∷◌}
 use lib.ListN.{get_or-eq_default}
 use Rattle.diagnostics.specs.declared.Refusal.{Refusal}
@@ -20,6 +26,24 @@ past n h =
     ∷ Refusal.Undeclared ∷ Refusal.Registers ∷ Refusal.Else ∷ Refusal.Key ∷ Refusal.Code ∷ Refusal.Constants ∷ Refusal.Unmarked ∷ Refusal.Marks
     ∷ Refusal.Destination ∷ Refusal.Sum ∷ Refusal.Jump ∷ [])
     Refusal.Jump h
+
+-- 9, 11, 12 and 15 name a node
+pub node_named : (n : ℕ) → names_node (refusal_of n) ≡ (((eqb n 9 || eqb n 11) || eqb n 12) || eqb n 15)
+unfolding refusal_of names_node
+node_named n = go (dec_lt n 20)
+  where
+    go : Dec (n < 20) → names_node (refusal_of n) ≡ (((eqb n 9 || eqb n 11) || eqb n 12) || eqb n 15)
+    go (yes h) = agree_below_at (λ k. names_node (refusal_of k)) (λ k. ((eqb k 9 || eqb k 11) || eqb k 12) || eqb k 15) 20 n refl h
+    go (no h) = rw (past n (omega arith), ne_eqb n 9 (omega arith), ne_eqb n 11 (omega arith), ne_eqb n 12 (omega arith), ne_eqb n 15 (omega arith))
+
+-- 1 to 19 stand for themselves
+pub number_clamped : (n : ℕ) → refusal_number (refusal_of n) ≡ min (max n 1) 19
+unfolding refusal_of
+number_clamped n = go (dec_lt n 20)
+  where
+    go : Dec (n < 20) → refusal_number (refusal_of n) ≡ min (max n 1) 19
+    go (yes h) = eqb-true _ _ (agree_below_at (λ k. eqb (refusal_number (refusal_of k)) (min (max k 1) 19)) (λ k. true) 20 n refl h)
+    go (no h) = rw (past n (omega arith)) (omega arith)
 
 -- the eight numbers of a refusal, and of a place
 module _ (arity : ℕ) (t : Tree) (m : Made) (a : ℕ) where

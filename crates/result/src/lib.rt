@@ -11,10 +11,15 @@ ghost use Rattle.lowering.specs.Result.{numbers_of, lowered_of};
 ghost use Rattle.steps.specs.Answers.{place_at, refusal_of, names_node, seen};
 ghost use Rattle.result.specs.Numbers.{numbers, refused_result};
 
-use diagnostics::Refusal;
+use diagnostics::{Refusal, Refused};
 use lowering::RESULT_WORDS;
 use steps::answer::{AnswerAndState, is_refusal, number_of, value_of};
 use syntax::ast::node_word;
+
+// The words of a node record that have its span.
+const SPAN_START: u32 = 4;
+
+const SPAN_END: u32 = 5;
 
 // The eight numbers that come back.
 #[derive(Drop)]
@@ -29,7 +34,7 @@ pub struct Result {
     pub arity: u32,
 }
 
-// The eight numbers, in document 01's order.
+// The eight numbers, in document 01's order. An `impl From` for the array would be no plainer: a caller would have to write the array's type.
 pub fn numbers_of(r: Result) -> [u32; RESULT_WORDS]
     ensures { result ≡ numbers_of (numbers r) }
 {
@@ -46,12 +51,12 @@ pub fn numbers_of(r: Result) -> [u32; RESULT_WORDS]
 }
 
 // Nothing was made: a question was answered no.
-pub fn refused_result(refusal: Refusal, place: u32) -> Result
-    ensures { numbers result ≡ refused_result refusal place }
+pub fn refused_result(refused: Refused) -> Result
+    ensures { numbers result ≡ refused_result refused.refusal refused.place }
 {
     Result {
-        number: refusal.number(),
-        place,
+        number: refused.refusal.number(),
+        place: refused.place,
         start: 0,
         end: 0,
         instructions: 0,
@@ -61,7 +66,8 @@ pub fn refused_result(refusal: Refusal, place: u32) -> Result
     }
 }
 
-// Whether a refusal names a node, whose span comes back.
+// Whether a refusal names a node, whose span comes back. The answer of the walk has the refusal's number, so numbers are compared.
+#[tactic(auto, using(crate::proofs::Laws::node_named))]
 fn names_node(number: u32) -> bool
     ensures { result ≡ names_node (refusal_of number) }
 {
@@ -71,44 +77,44 @@ fn names_node(number: u32) -> bool
         | (number == Refusal::Unmarked.number())
 }
 
-// The number of the refusal that a number stands for: 1 to 19 stand for themselves.
+// The number of the refusal that a number stands for: 1 to 19 stand for themselves, a lower number for the first and a higher one for the last.
+#[tactic(auto, using(crate::proofs::Laws::number_clamped))]
 fn refusal_number(number: u32) -> u32
     ensures { result ≡ refusal_number (refusal_of number) }
 {
-    if number == 0 {
-        return Refusal::Size.number();
-    }
-    if number < Refusal::Jump.number() {
-        return number;
-    }
-    Refusal::Jump.number()
+    number.clamp(Refusal::Size.number(), Refusal::Jump.number())
 }
 
-// A word of the span of the node that a refusal names; 0 if it names none.
-fn span_word(nodes: &[u8], number: u32, place: u32, k: u32) -> u32
-    ensures { result ≡ cond (names_node (refusal_of number)) (node_word (words nodes.now) place k) 0 }
+// The span of the node that a refusal names, its start and its end; 0 and 0 if it names none.
+fn span(nodes: &[u8], number: u32, place: u32) -> (u32, u32)
+    ensures start { result.0 ≡ cond (names_node (refusal_of number)) (node_word (words nodes.now) place 4) 0 }
+    ensures end { result.1 ≡ cond (names_node (refusal_of number)) (node_word (words nodes.now) place 5) 0 }
 {
-    if names_node(number) {
-        return node_word(nodes, place, k);
+    if !names_node(number) {
+        return (0, 0);
     }
-    0
+    (
+        node_word(nodes, place, SPAN_START),
+        node_word(nodes, place, SPAN_END),
+    )
 }
 
 // The numbers of what was made. On a refusal the last two are 0, and the span is that of the node that it names.
+#[tactic(auto, using(crate::proofs::Laws::result_refused, crate::proofs::Laws::result_placed))]
 pub fn result_of(nodes: &[u8], lowered: AnswerAndState, arity: u32) -> Result
     ensures { (list names k p m : List ℕ) → numbers result ≡ (lowered_of arity (seen (tree_of nodes.now list names) place_at (made k p m lowered.state) lowered.answer)).result }
 {
     let s = lowered.state;
-    let registers = s.registers;
     let a = lowered.answer;
     let place = value_of(a);
     if is_refusal(a) {
         let number = number_of(a);
+        let (start, end) = span(nodes, number, place);
         return Result {
             number: refusal_number(number),
             place,
-            start: span_word(nodes, number, place, 4),
-            end: span_word(nodes, number, place, 5),
+            start,
+            end,
             instructions: s.instructions,
             constants: s.constants,
             frame_size: 0,
@@ -122,7 +128,7 @@ pub fn result_of(nodes: &[u8], lowered: AnswerAndState, arity: u32) -> Result
         end: 0,
         instructions: s.instructions,
         constants: s.constants,
-        frame_size: registers.frame_size,
+        frame_size: s.registers.frame_size,
         arity,
     }
 }

@@ -1,11 +1,10 @@
 -- Instructions and their records: decoding is the inverse of `words_of`, both ways where the words after the last field are 0, and an offset or a
 -- destination is one word of the record. Assumes nothing.
+use Rattle.std.specs.Prelude.{Option, Some, None, option_map}
 use mathlib.Core.Path.{◌≡◌, refl, sym, ap, ◌∙◌}
 use mathlib.Core.List.{List, [], ◌∷◌, map}
 use mathlib.Core.Logic.{◌↔◌, ◌≢◌, ◌⊎◌, inl, inr}
 use mathlib.Core.Bool.{Bool, true, false, cond}
-use mathlib.Core.Option
-use mathlib.Core.Option.{Option, none, some, some-injective, map-eq-some_iff}
 use Prim.Native.Nat.{ℕ, zero, suc, ◌+◌, ◌≤◌, ◌<◌}
 use native.Mathlib.Omega.{arith}
 use native.Mathlib.Decide.{dec_lt}
@@ -24,7 +23,7 @@ set_offset (suc w) o ws = set ws (suc w) o
 -- what the words of an instruction compute to: their number, what they decode to, and what another offset and another destination make of them
 record Encoded (i : Instruction) : Type 0 where
   width : length (words_of i) ≡ instruction_width
-  decoded : decode (words_of i) ≡ some i
+  decoded : decode (words_of i) ≡ Some i
   offset : (o : ℕ) → words_of (with_offset o i) ≡ set_offset (offset_word (kind_of i)) o (words_of i)
   destination : (d : ℕ) → words_of (with_destination d i) ≡ cond (has_destination (kind_of i)) (set (words_of i) 1 d) (words_of i)
 
@@ -92,13 +91,13 @@ module _ (i : Instruction) where
   length_words_of = (encoded i).width
 
   -- decoding is the inverse of encoding
-  pub decode_words_of : decode (words_of i) ≡ some i
+  pub decode_words_of : decode (words_of i) ≡ Some i
   decode_words_of = (encoded i).decoded
 
 -- a kind above 54 is no instruction's
-pub decode_above : (ws : List ℕ) → 54 < get_or ws 0 0 → decode ws ≡ none
+pub decode_above : (ws : List ℕ) → 54 < get_or ws 0 0 → decode ws ≡ None
 unfolding decode
-decode_above ws h = rw (get_or-eq_default decoders (λ a b c. none) {n = get_or ws 0 0} (omega arith))
+decode_above ws h = rw (get_or-eq_default decoders (λ a b c. None) {n = get_or ws 0 0} (omega arith))
 
 -- and every instruction's kind is up to 54
 pub kind_le : (i : Instruction) → kind_of i ≤ 54
@@ -117,16 +116,16 @@ words_of_injective i j e = cc (decode_words_of i, decode_words_of j)
 -- the table of these records, from kind k on
 abbrev records : ℕ → List FieldCount → List (ℕ → ℕ → ℕ → Option (List ℕ))
 records k [] = []
-records k (n ∷ ns) = (λ a b c. some (record_of n k a b c)) ∷ records (suc k) ns
+records k (n ∷ ns) = (λ a b c. Some (record_of n k a b c)) ∷ records (suc k) ns
 
 get_or_records : (k : ℕ) (ns : List FieldCount) (j : ℕ) (none' : ℕ → ℕ → ℕ → Option (List ℕ)) → j < length ns →
-    get_or (records k ns) j none' ≡ (λ a b c. some (record_of (get_or ns j one) (k + j) a b c))
+    get_or (records k ns) j none' ≡ (λ a b c. Some (record_of (get_or ns j one) (k + j) a b c))
 get_or_records k [] j d h = absurd (omega arith)
 get_or_records k (n ∷ ns) zero d h = let e : k + zero ≡ k = omega arith in rw e
 get_or_records k (n ∷ ns) (suc j) d h = let e : k + suc j ≡ suc k + j = omega arith in rw e (get_or_records (suc k) ns j d (omega arith))
 
 abbrev recoded : (ℕ → ℕ → ℕ → Option Instruction) → ℕ → ℕ → ℕ → Option (List ℕ)
-recoded f a b c = Option.map words_of (f a b c)
+recoded f a b c = option_map words_of (f a b c)
 
 -- the whole table at once: what each kind decodes to has the words that were decoded, with 0 after the last field
 recoded_decoders : map recoded decoders ≡ records 0 field_counts
@@ -134,31 +133,36 @@ unfolding words_of
 recoded_decoders = refl
 
 -- what a record of a kind up to 54 decodes to has its words, with 0 after the last field
-pub words_of_decode : (k a b c : ℕ) → k ≤ 54 → Option.map words_of (decode (k ∷ a ∷ b ∷ c ∷ [])) ≡ some (record_of (field_count_of k) k a b c)
+pub words_of_decode : (k a b c : ℕ) → k ≤ 54 → option_map words_of (decode (k ∷ a ∷ b ∷ c ∷ [])) ≡ Some (record_of (field_count_of k) k a b c)
 unfolding decode
 words_of_decode k a b c h =
     ap (λ row. row a b c)
-    (sym (get_or-map recoded decoders k (λ a b c. none))
-    ∙ ap (λ rows. get_or rows k (λ a b c. none)) recoded_decoders
-    ∙ get_or_records 0 field_counts k (λ a b c. none) (omega arith)
-    ∙ ap (λ n a b c. some (record_of (field_count_of k) n a b c)) (omega arith))
+    (sym (get_or-map recoded decoders k (λ a b c. None))
+    ∙ ap (λ rows. get_or rows k (λ a b c. None)) recoded_decoders
+    ∙ get_or_records 0 field_counts k (λ a b c. None) (omega arith)
+    ∙ ap (λ n a b c. Some (record_of (field_count_of k) n a b c)) (omega arith))
 
 module _ (k a b c : ℕ) where
   -- a kind up to 54 decodes
-  pub decode_below : k ≤ 54 → (i : Instruction) × (decode (k ∷ a ∷ b ∷ c ∷ []) ≡ some i)
-  decode_below h = let found = (map-eq-some_iff words_of (decode (k ∷ a ∷ b ∷ c ∷ []))).0 (words_of_decode k a b c h) in (found.0, found.1)
+  pub decode_below : k ≤ 54 → (i : Instruction) × (decode (k ∷ a ∷ b ∷ c ∷ []) ≡ Some i)
+  decode_below h = go (decode (k ∷ a ∷ b ∷ c ∷ [])) refl (words_of_decode k a b c h)
+    where
+      go : (o : Option Instruction) → decode (k ∷ a ∷ b ∷ c ∷ []) ≡ o → option_map words_of o ≡ Some (record_of (field_count_of k) k a b c) →
+          (i : Instruction) × (decode (k ∷ a ∷ b ∷ c ∷ []) ≡ Some i)
+      go (Some i) e h = (i, e)
+      go None e h = let z : ◌≡◌ {A = ℕ} 0 1 = cc in absurd (omega arith)
 
   -- what is decoded has the words of the record, with 0 after the last field: those after it are not looked at
-  pub decoded_words : (i : Instruction) → decode (k ∷ a ∷ b ∷ c ∷ []) ≡ some i → words_of i ≡ record_of (field_count_of k) k a b c
+  pub decoded_words : (i : Instruction) → decode (k ∷ a ∷ b ∷ c ∷ []) ≡ Some i → words_of i ≡ record_of (field_count_of k) k a b c
   decoded_words i e = go (dec_lt 54 k)
     where
       go : Dec (54 < k) → words_of i ≡ record_of (field_count_of k) k a b c
       go (yes h) = let z : ◌≡◌ {A = ℕ} 0 1 = cc (decode_above (k ∷ a ∷ b ∷ c ∷ []) h) in absurd (omega arith)
-      go (no h) = some-injective _ _ (rw e at (words_of_decode k a b c (omega arith)))
+      go (no h) = let same : Some (words_of i) ≡ Some (record_of (field_count_of k) k a b c) = rw e at (words_of_decode k a b c (omega arith)) in cc
 
   -- so of records with 0 there decoding is the inverse both ways
   pub decode_iff : (i : Instruction) → record_of (field_count_of k) k a b c ≡ k ∷ a ∷ b ∷ c ∷ [] →
-      (decode (k ∷ a ∷ b ∷ c ∷ []) ≡ some i) ↔ (words_of i ≡ k ∷ a ∷ b ∷ c ∷ [])
+      (decode (k ∷ a ∷ b ∷ c ∷ []) ≡ Some i) ↔ (words_of i ≡ k ∷ a ∷ b ∷ c ∷ [])
   decode_iff i z = (λ e. decoded_words i e ∙ z, λ e. rw e at (decode_words_of i))
 
 -- ---- offsets
@@ -188,7 +192,7 @@ module _ (i : Instruction) (o : ℕ) where
   pub words_of_offset : offset_word (kind_of i) ≢ 0 → words_of (with_offset o i) ≡ set (words_of i) (offset_word (kind_of i)) o
   words_of_offset h = (encoded i).offset o ∙ put_offset_lem _ o _ h
 
-  pub decode_offset : offset_word (kind_of i) ≢ 0 → decode (set (words_of i) (offset_word (kind_of i)) o) ≡ some (with_offset o i)
+  pub decode_offset : offset_word (kind_of i) ≢ 0 → decode (set (words_of i) (offset_word (kind_of i)) o) ≡ Some (with_offset o i)
   decode_offset h = rw (← words_of_offset h) (decode_words_of (with_offset o i))
 
   -- what is no jump has no offset to change
@@ -202,7 +206,7 @@ module _ (i : Instruction) (d : ℕ) where
   pub words_of_destination : has_destination (kind_of i) ≡ true → words_of (with_destination d i) ≡ set (words_of i) 1 d
   words_of_destination h = rw h at ((encoded i).destination d)
 
-  pub decode_destination : has_destination (kind_of i) ≡ true → decode (set (words_of i) 1 d) ≡ some (with_destination d i)
+  pub decode_destination : has_destination (kind_of i) ≡ true → decode (set (words_of i) 1 d) ≡ Some (with_destination d i)
   decode_destination h = rw (← words_of_destination h) (decode_words_of (with_destination d i))
 
   -- another kind has none to change

@@ -1,5 +1,6 @@
 -- What an emitted instruction and a stored constant leave: the place that is answered holds them, and every other record is as it was; for the
 -- pool, that place is the first with the constant's words. Assumes nothing.
+use Rattle.std.specs.Prelude.{Ok, Err}
 use mathlib.Core.Path.{◌≡◌, refl, sym, ◌∙◌}
 use mathlib.Core.List.{List}
 use mathlib.Core.Logic.{◌⊎◌, inl, inr}
@@ -10,7 +11,6 @@ use native.Mathlib.Decide.{dec_lt}
 use lib.ListN.{length}
 use borrow.Author.Tests.{lt-ltb, le-ltb}
 use Rattle.diagnostics.specs.declared.Refusal.{Refusal}
-use Rattle.diagnostics.specs.declared.Place.{Place}
 use Rattle.words.specs.Records.{Buffer, buffer, capacity, record_at, put_record, is_at, append, position, max_count, First}
 use Rattle.words.proofs.Records.{record_same, record_other, record_capacity, append_room, append_full, append_limit}
 use Rattle.words.proofs.Search.{position_first, is_record, record_is}
@@ -27,7 +27,7 @@ use Rattle.runtime.proofs.Constants.{constant_width_lem}
 
 module _ (constants : List ℕ) (count : ℕ) (c : Operand) where
   pub store_pooled : position constants (constant_words c) count < count →
-      store_constant constants count c ≡ buffer constants (record { count = count; place = Place.At (position constants (constant_words c) count) })
+      store_constant constants count c ≡ buffer constants (record { count = count; place = Ok (position constants (constant_words c) count) })
   unfolding store_constant
   store_pooled h = rw (lt-ltb _ _ h)
 
@@ -41,9 +41,9 @@ module _ (constants : List ℕ) (count : ℕ) (c : Operand) where
 -- an append: made, or refused
 data Appending (w : ℕ) (ws : List ℕ) (count limit : ℕ) (r : List ℕ) (refusal : Refusal) : Buffer → Type 0 where
   made : count < limit → count < capacity w ws →
-      Appending w ws count limit r refusal (buffer (put_record w ws count r) (record { count = count + 1; place = Place.At count }))
+      Appending w ws count limit r refusal (buffer (put_record w ws count r) (record { count = count + 1; place = Ok count }))
   full : (capacity w ws ≤ count) ⊎ (limit ≤ count) →
-      Appending w ws count limit r refusal (buffer ws (record { count = count; place = Place.Refused refusal }))
+      Appending w ws count limit r refusal (buffer ws (record { count = count; place = Err refusal }))
 
 appending : (w : ℕ) (ws : List ℕ) (count limit : ℕ) (r : List ℕ) (refusal : Refusal) → length r ≡ w →
     Appending w ws count limit r refusal (append ws count limit r refusal)
@@ -57,7 +57,7 @@ appending w ws count limit r refusal e = go (dec_lt count limit) (dec_lt count (
 -- a constant: pooled already, or appended
 data Storing (ws : List ℕ) (count : ℕ) (c : Operand) : Buffer → Type 0 where
   pooled : (p : ℕ) → p < count → p < capacity constant_width ws → record_at constant_width ws p ≡ constant_words c → Unpooled ws c p →
-      Storing ws count c (buffer ws (record { count = count; place = Place.At p }))
+      Storing ws count c (buffer ws (record { count = count; place = Ok p }))
   new : {b : Buffer} → Unpooled ws c count → Appending constant_width ws count max_count (constant_words c) Refusal.Constants b → Storing ws count c b
 
 storing : (ws : List ℕ) (count : ℕ) (c : Operand) → Storing ws count c (store_constant ws count c)
@@ -91,10 +91,10 @@ module _ (ws : List ℕ) (count : ℕ) (i : Instruction) where
   unfolding emit_instruction
   emitting = appending instruction_width ws count max_instructions (words_of i) Refusal.Code (length_words_of i)
 
-  pub emit_at : (p : ℕ) → (emit_instruction ws count i).answer.place ≡ Place.At p → Emitted ws count i (emit_instruction ws count i) p
+  pub emit_at : (p : ℕ) → (emit_instruction ws count i).answer.place ≡ Ok p → Emitted ws count i (emit_instruction ws count i) p
   emit_at p = go emitting
     where
-      go : {b : Buffer} → Appending instruction_width ws count max_instructions (words_of i) Refusal.Code b → b.answer.place ≡ Place.At p → Emitted ws count i b p
+      go : {b : Buffer} → Appending instruction_width ws count max_instructions (words_of i) Refusal.Code b → b.answer.place ≡ Ok p → Emitted ws count i b p
       go (made l h) e =
           let same : p ≡ count = cc in
           rw same
@@ -107,20 +107,20 @@ module _ (ws : List ℕ) (count : ℕ) (i : Instruction) where
       go (full h) e = let z : ◌≡◌ {A = ℕ} 0 1 = cc in absurd (omega arith)
 
   -- "13"
-  pub emit_refused : (refusal : Refusal) → (emit_instruction ws count i).answer.place ≡ Place.Refused refusal →
+  pub emit_refused : (refusal : Refusal) → (emit_instruction ws count i).answer.place ≡ Err refusal →
       (refusal ≡ Refusal.Code) × Full instruction_width ws count max_instructions (emit_instruction ws count i)
   emit_refused refusal = go emitting
     where
-      go : {b : Buffer} → Appending instruction_width ws count max_instructions (words_of i) Refusal.Code b → b.answer.place ≡ Place.Refused refusal →
+      go : {b : Buffer} → Appending instruction_width ws count max_instructions (words_of i) Refusal.Code b → b.answer.place ≡ Err refusal →
           (refusal ≡ Refusal.Code) × Full instruction_width ws count max_instructions b
       go (made l h) e = let z : ◌≡◌ {A = ℕ} 0 1 = cc in absurd (omega arith)
       go (full h) e = (cc, record { kept = refl; counted = refl; full = h })
 
 module _ (ws : List ℕ) (count : ℕ) (c : Operand) where
-  pub store_at : (p : ℕ) → (store_constant ws count c).answer.place ≡ Place.At p → Stored ws count c (store_constant ws count c) p
+  pub store_at : (p : ℕ) → (store_constant ws count c).answer.place ≡ Ok p → Stored ws count c (store_constant ws count c) p
   store_at p = go (storing ws count c)
     where
-      go : {b : Buffer} → Storing ws count c b → b.answer.place ≡ Place.At p → Stored ws count c b p
+      go : {b : Buffer} → Storing ws count c b → b.answer.place ≡ Ok p → Stored ws count c b p
       go (pooled place h whole at before) e =
           let same : p ≡ place = cc in
           rw same (record { counted = h; holds = at; first = before; kept = λ q n. refl; grows = inl (h, refl, refl) })
@@ -140,11 +140,11 @@ module _ (ws : List ℕ) (count : ℕ) (c : Operand) where
       go (new unpooled (full h)) e = let z : ◌≡◌ {A = ℕ} 0 1 = cc in absurd (omega arith)
 
   -- "14"; "a constant already pooled needs none"
-  pub store_refused : (refusal : Refusal) → (store_constant ws count c).answer.place ≡ Place.Refused refusal →
+  pub store_refused : (refusal : Refusal) → (store_constant ws count c).answer.place ≡ Err refusal →
       (refusal ≡ Refusal.Constants) × Full constant_width ws count max_count (store_constant ws count c) × Unpooled ws c count
   store_refused refusal = go (storing ws count c)
     where
-      go : {b : Buffer} → Storing ws count c b → b.answer.place ≡ Place.Refused refusal →
+      go : {b : Buffer} → Storing ws count c b → b.answer.place ≡ Err refusal →
           (refusal ≡ Refusal.Constants) × Full constant_width ws count max_count b × Unpooled ws c count
       go (pooled place h whole at before) e = let z : ◌≡◌ {A = ℕ} 0 1 = cc in absurd (omega arith)
       go (new unpooled (made l h)) e = let z : ◌≡◌ {A = ℕ} 0 1 = cc in absurd (omega arith)

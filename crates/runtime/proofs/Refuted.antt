@@ -1,11 +1,11 @@
 -- What emitting and the pool say can fail: `Emitted`, `Stored` and `Full` are false of a wrong place, count or word. Assumes nothing.
+use Rattle.std.specs.Prelude.{Ok}
 use Prim.Native.Nat.{ℕ}
 use native.Mathlib.Omega.{arith}
 use mathlib.Core.Path.{refl, ap}
 use mathlib.Core.Logic.{⊎_elim}
 use mathlib.Core.List.{List, [], ◌∷◌, ◌++◌}
 use lib.ListN.{get_or, set, replicate}
-use Rattle.diagnostics.specs.declared.Place.{Place}
 use Rattle.words.specs.Records.{Buffer, buffer, capacity, record_at}
 use Rattle.runtime.specs.declared.instruction.Instruction.{Instruction}
 use Rattle.runtime.specs.declared.operand.Operand.{Operand}
@@ -20,7 +20,7 @@ code = replicate 12 9
 
 -- what is left: so many instructions, and the four words of record 1
 abbrev left : ℕ → List ℕ → Buffer
-left count words = buffer (replicate 4 9 ++ words ++ replicate 4 9) (record { count = count; place = Place.At 1 })
+left count words = buffer (replicate 4 9 ++ words ++ replicate 4 9) (record { count = count; place = Ok 1 })
 
 abbrev pub MoveAt : Buffer → ℕ → Type 0
 MoveAt after p = Emitted code 1 (Instruction.Move 1 0) after p
@@ -35,7 +35,7 @@ pub word_refuted : MoveAt (left 2 (25 ∷ 0 ∷ 1 ∷ 0 ∷ [])) 1 → ⊥
 unfolding record_at words_of
 word_refuted e = omega (arith, ap (λ ws. get_or ws 1 0) e.holds)
 
-pub other_refuted : MoveAt (buffer (set (replicate 4 9 ++ (25 ∷ 1 ∷ 0 ∷ 0 ∷ []) ++ replicate 4 9) 3 8) (record { count = 2; place = Place.At 1 })) 1 → ⊥
+pub other_refuted : MoveAt (buffer (set (replicate 4 9 ++ (25 ∷ 1 ∷ 0 ∷ 0 ∷ []) ++ replicate 4 9) 3 8) (record { count = 2; place = Ok 1 })) 1 → ⊥
 unfolding record_at
 other_refuted e = omega (arith, ap (λ ws. get_or ws 3 0) (e.kept 0 (λ z. omega arith)))
 
@@ -45,7 +45,7 @@ abbrev pool : List ℕ
 pool = 0 ∷ 0 ∷ 0 ∷ 3 ∷ 5 ∷ 0 ∷ []
 
 abbrev pub FiveAt : ℕ → ℕ → Type 0
-FiveAt count p = Stored pool 2 (Operand.String 5) (buffer pool (record { count = count; place = Place.At p })) p
+FiveAt count p = Stored pool 2 (Operand.String 5) (buffer pool (record { count = count; place = Ok p })) p
 
 -- not where nil is, and not a second time after the last
 pub first_refuted : FiveAt 2 0 → ⊥

@@ -1,7 +1,6 @@
 -- "emit appends; the pool gives the first equal constant, else appends."
-use Rattle.std.specs.Prelude.{ℕ, List, cond, ltb}
+use Rattle.std.specs.Prelude.{ℕ, List, cond, ltb, Ok}
 use Rattle.diagnostics.specs.declared.Refusal.{Refusal}
-use Rattle.diagnostics.specs.declared.Place.{Place}
 use Rattle.words.specs.Records.{Buffer, buffer, append, position, max_count}
 use Rattle.runtime.specs.declared.instruction.Instruction.{Instruction}
 use Rattle.runtime.specs.declared.operand.Operand.{Operand}
@@ -21,5 +20,5 @@ unfoldable pub store_constant : List ℕ → ℕ → Operand → Buffer
 store_constant constants count c =
     let place : ℕ = position constants (constant_words c) count in
     cond (ltb place count)
-    (buffer constants (record { count = count; place = Place.At place }))
+    (buffer constants (record { count = count; place = Ok place }))
     (append constants count max_count (constant_words c) Refusal.Constants)

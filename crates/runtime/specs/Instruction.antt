@@ -1,6 +1,5 @@
 -- "Instruction, four words: place in the order of `instruction.rs` from 0 (Add) to 54 (CaptureValue), then its fields in declared order."
-use Rattle.std.specs.Prelude.{ℕ, List, [], ◌∷◌, Bool, true, false, cond, ltb, get_or}
-use Rattle.std.proofs.Math.Option.{Option, none, some}
+use Rattle.std.specs.Prelude.{ℕ, List, [], ◌∷◌, Bool, true, false, cond, ltb, get_or, Option, Some, None}
 use Rattle.runtime.specs.declared.instruction.Instruction.{Instruction}
 
 -- the width of an instruction record
@@ -79,66 +78,66 @@ words_of (Instruction.CaptureValue src) = 54 ∷ src ∷ 0 ∷ 0 ∷ []
 -- what each kind makes of the words after it
 abbrev pub decoders : List (ℕ → ℕ → ℕ → Option Instruction)
 decoders =
-    (λ a b c. some (Instruction.Add a b c)) ∷
-    (λ a b c. some (Instruction.AddK a b c)) ∷
-    (λ a b c. some (Instruction.Subtract a b c)) ∷
-    (λ a b c. some (Instruction.SubtractRK a b c)) ∷
-    (λ a b c. some (Instruction.SubtractKR a b c)) ∷
-    (λ a b c. some (Instruction.Multiply a b c)) ∷
-    (λ a b c. some (Instruction.MultiplyK a b c)) ∷
-    (λ a b c. some (Instruction.Divide a b c)) ∷
-    (λ a b c. some (Instruction.DivideRK a b c)) ∷
-    (λ a b c. some (Instruction.DivideKR a b c)) ∷
-    (λ a b c. some (Instruction.Modulo a b c)) ∷
-    (λ a b c. some (Instruction.ModuloRK a b c)) ∷
-    (λ a b c. some (Instruction.ModuloKR a b c)) ∷
-    (λ a b c. some (Instruction.Equal a b c)) ∷
-    (λ a b c. some (Instruction.EqualK a b c)) ∷
-    (λ a b c. some (Instruction.NotEqual a b c)) ∷
-    (λ a b c. some (Instruction.NotEqualK a b c)) ∷
-    (λ a b c. some (Instruction.Less a b c)) ∷
-    (λ a b c. some (Instruction.LessRK a b c)) ∷
-    (λ a b c. some (Instruction.LessKR a b c)) ∷
-    (λ a b c. some (Instruction.LessEqual a b c)) ∷
-    (λ a b c. some (Instruction.LessEqualRK a b c)) ∷
-    (λ a b c. some (Instruction.LessEqualKR a b c)) ∷
-    (λ a b c. some (Instruction.Not a b)) ∷
-    (λ a b c. some (Instruction.Negate a b)) ∷
-    (λ a b c. some (Instruction.Move a b)) ∷
-    (λ a b c. some (Instruction.LoadConst a b)) ∷
-    (λ a b c. some (Instruction.CreateMap a)) ∷
-    (λ a b c. some (Instruction.SetProperty a b c)) ∷
-    (λ a b c. some (Instruction.SetPropertyRK a b c)) ∷
-    (λ a b c. some (Instruction.SetPropertyKR a b c)) ∷
-    (λ a b c. some (Instruction.SetPropertyKK a b c)) ∷
-    (λ a b c. some (Instruction.GetProperty a b c)) ∷
-    (λ a b c. some (Instruction.GetPropertyK a b c)) ∷
-    (λ a b c. some (Instruction.SetElement a b c)) ∷
-    (λ a b c. some (Instruction.CreateClosure a b c)) ∷
-    (λ a b c. some (Instruction.CreateRef a b)) ∷
-    (λ a b c. some (Instruction.DerefSet a b)) ∷
-    (λ a b c. some (Instruction.Deref a b)) ∷
-    (λ a b c. some (Instruction.Call a b c)) ∷
-    (λ a b c. some (Instruction.Return a)) ∷
-    (λ a b c. some (Instruction.Jump a)) ∷
-    (λ a b c. some (Instruction.JumpIfFalse a b)) ∷
-    (λ a b c. some (Instruction.JumpIfTrue a b)) ∷
-    (λ a b c. some (Instruction.JumpIfLess a b c)) ∷
-    (λ a b c. some (Instruction.JumpIfLessRK a b c)) ∷
-    (λ a b c. some (Instruction.JumpIfLessKR a b c)) ∷
-    (λ a b c. some (Instruction.JumpIfLessEqual a b c)) ∷
-    (λ a b c. some (Instruction.JumpIfLessEqualRK a b c)) ∷
-    (λ a b c. some (Instruction.JumpIfLessEqualKR a b c)) ∷
-    (λ a b c. some (Instruction.JumpIfEqual a b c)) ∷
-    (λ a b c. some (Instruction.JumpIfEqualK a b c)) ∷
-    (λ a b c. some (Instruction.JumpIfNotEqual a b c)) ∷
-    (λ a b c. some (Instruction.JumpIfNotEqualK a b c)) ∷
-    (λ a b c. some (Instruction.CaptureValue a)) ∷
+    (λ a b c. Some (Instruction.Add a b c)) ∷
+    (λ a b c. Some (Instruction.AddK a b c)) ∷
+    (λ a b c. Some (Instruction.Subtract a b c)) ∷
+    (λ a b c. Some (Instruction.SubtractRK a b c)) ∷
+    (λ a b c. Some (Instruction.SubtractKR a b c)) ∷
+    (λ a b c. Some (Instruction.Multiply a b c)) ∷
+    (λ a b c. Some (Instruction.MultiplyK a b c)) ∷
+    (λ a b c. Some (Instruction.Divide a b c)) ∷
+    (λ a b c. Some (Instruction.DivideRK a b c)) ∷
+    (λ a b c. Some (Instruction.DivideKR a b c)) ∷
+    (λ a b c. Some (Instruction.Modulo a b c)) ∷
+    (λ a b c. Some (Instruction.ModuloRK a b c)) ∷
+    (λ a b c. Some (Instruction.ModuloKR a b c)) ∷
+    (λ a b c. Some (Instruction.Equal a b c)) ∷
+    (λ a b c. Some (Instruction.EqualK a b c)) ∷
+    (λ a b c. Some (Instruction.NotEqual a b c)) ∷
+    (λ a b c. Some (Instruction.NotEqualK a b c)) ∷
+    (λ a b c. Some (Instruction.Less a b c)) ∷
+    (λ a b c. Some (Instruction.LessRK a b c)) ∷
+    (λ a b c. Some (Instruction.LessKR a b c)) ∷
+    (λ a b c. Some (Instruction.LessEqual a b c)) ∷
+    (λ a b c. Some (Instruction.LessEqualRK a b c)) ∷
+    (λ a b c. Some (Instruction.LessEqualKR a b c)) ∷
+    (λ a b c. Some (Instruction.Not a b)) ∷
+    (λ a b c. Some (Instruction.Negate a b)) ∷
+    (λ a b c. Some (Instruction.Move a b)) ∷
+    (λ a b c. Some (Instruction.LoadConst a b)) ∷
+    (λ a b c. Some (Instruction.CreateMap a)) ∷
+    (λ a b c. Some (Instruction.SetProperty a b c)) ∷
+    (λ a b c. Some (Instruction.SetPropertyRK a b c)) ∷
+    (λ a b c. Some (Instruction.SetPropertyKR a b c)) ∷
+    (λ a b c. Some (Instruction.SetPropertyKK a b c)) ∷
+    (λ a b c. Some (Instruction.GetProperty a b c)) ∷
+    (λ a b c. Some (Instruction.GetPropertyK a b c)) ∷
+    (λ a b c. Some (Instruction.SetElement a b c)) ∷
+    (λ a b c. Some (Instruction.CreateClosure a b c)) ∷
+    (λ a b c. Some (Instruction.CreateRef a b)) ∷
+    (λ a b c. Some (Instruction.DerefSet a b)) ∷
+    (λ a b c. Some (Instruction.Deref a b)) ∷
+    (λ a b c. Some (Instruction.Call a b c)) ∷
+    (λ a b c. Some (Instruction.Return a)) ∷
+    (λ a b c. Some (Instruction.Jump a)) ∷
+    (λ a b c. Some (Instruction.JumpIfFalse a b)) ∷
+    (λ a b c. Some (Instruction.JumpIfTrue a b)) ∷
+    (λ a b c. Some (Instruction.JumpIfLess a b c)) ∷
+    (λ a b c. Some (Instruction.JumpIfLessRK a b c)) ∷
+    (λ a b c. Some (Instruction.JumpIfLessKR a b c)) ∷
+    (λ a b c. Some (Instruction.JumpIfLessEqual a b c)) ∷
+    (λ a b c. Some (Instruction.JumpIfLessEqualRK a b c)) ∷
+    (λ a b c. Some (Instruction.JumpIfLessEqualKR a b c)) ∷
+    (λ a b c. Some (Instruction.JumpIfEqual a b c)) ∷
+    (λ a b c. Some (Instruction.JumpIfEqualK a b c)) ∷
+    (λ a b c. Some (Instruction.JumpIfNotEqual a b c)) ∷
+    (λ a b c. Some (Instruction.JumpIfNotEqualK a b c)) ∷
+    (λ a b c. Some (Instruction.CaptureValue a)) ∷
     []
 
 -- the instruction that a record holds: none where the kind is above 54; a word after the last field is not looked at
 unfoldable pub decode : List ℕ → Option Instruction
-decode ws = get_or decoders (get_or ws 0 0) (λ a b c. none) (get_or ws 1 0) (get_or ws 2 0) (get_or ws 3 0)
+decode ws = get_or decoders (get_or ws 0 0) (λ a b c. None) (get_or ws 1 0) (get_or ws 2 0) (get_or ws 3 0)
 
 -- "a destination that `patch_arguments` lists", by kind, in word 1: Add to CreateMap (0 to 27), GetProperty (32), CreateClosure and CreateRef
 -- (35, 36), Deref and Call (38, 39)

@@ -2,7 +2,7 @@
 ghost use Rattle.std.specs.Prelude.{◌≡◌};
 ghost use Rattle.runtime.specs.Instruction.{has_destination, offset_word};
 
-use crate::opcode;
+use crate::opcode::Opcode;
 use crate::operands::{Const, Reg};
 
 // The words of an instruction record.
@@ -273,42 +273,42 @@ pub enum Instruction {
     },
 }
 
-// Whether `patch_arguments` lists a kind: its first field is then a destination.
+// Whether `patch_arguments` lists a kind: its first field is then a destination. The kind is a word of any buffer, and need be no opcode's number.
 #[tactic(auto, unfolding(crate::specs::Instruction::has_destination))]
 pub fn has_destination(kind: u32) -> bool
     ensures { result ≡ has_destination kind }
 {
     // Add to CreateMap; GetProperty; CreateClosure and CreateRef; Deref and Call.
-    if kind < opcode::SET_PROPERTY {
+    if kind < (Opcode::SetProperty as u32) {
         true
-    } else if kind < opcode::GET_PROPERTY {
+    } else if kind < (Opcode::GetProperty as u32) {
         false
-    } else if kind < opcode::GET_PROPERTY_K {
+    } else if kind < (Opcode::GetPropertyK as u32) {
         true
-    } else if kind < opcode::CREATE_CLOSURE {
+    } else if kind < (Opcode::CreateClosure as u32) {
         false
-    } else if kind < opcode::DEREF_SET {
+    } else if kind < (Opcode::DerefSet as u32) {
         true
-    } else if kind < opcode::DEREF {
+    } else if kind < (Opcode::Deref as u32) {
         false
     } else {
-        kind < opcode::RETURN
+        kind < (Opcode::Return as u32)
     }
 }
 
-// Which word of a jump is its offset; 0, the kind's own word, for a kind that is no jump.
+// Which word of a jump is its offset; 0, the kind's own word, for a kind that is no jump. The kind is, here too, a word of any buffer.
 #[tactic(auto, unfolding(crate::specs::Instruction::offset_word))]
 pub fn offset_word(kind: u32) -> usize
     ensures { result ≡ offset_word kind }
 {
     // Jump; JumpIfFalse and JumpIfTrue; the ten fused jumps.
-    if kind < opcode::JUMP {
+    if kind < (Opcode::Jump as u32) {
         0
-    } else if kind < opcode::JUMP_IF_FALSE {
+    } else if kind < (Opcode::JumpIfFalse as u32) {
         1
-    } else if kind < opcode::JUMP_IF_LESS {
+    } else if kind < (Opcode::JumpIfLess as u32) {
         2
-    } else if kind < opcode::CAPTURE_VALUE {
+    } else if kind < (Opcode::CaptureValue as u32) {
         3
     } else {
         0

@@ -1,16 +1,19 @@
 -- A step of a do-block, by the word that the program has of it: it stops with the refusal, or goes on with what the word gives. From
 -- `e : settled o ≡ seen t gives m a`, which is what a function of the walk ensures. Assumes nothing.
+use Rattle.std.specs.Prelude.{Result, Ok, Err}
 use mathlib.Core.Path.{◌≡◌, refl, sym, ◌∙◌, ap}
 use mathlib.Core.Logic.{◌≢◌}
 use mathlib.Core.Bool.{Bool, true, false, false≢true}
 use mathlib.Core.List.{List, [], ◌∷◌}
 use Prim.Native.Nat.{ℕ, ◌-◌, ◌<◌}
 use native.Mathlib.Omega.{arith}
-use borrow.Author.Tests.{eq-eqb, ne_eqb}
+use borrow.Author.Tests.{ne_eqb}
 use Rattle.diagnostics.specs.declared.Refusal.{Refusal}
-use Rattle.diagnostics.specs.declared.Place.{Place}
 use Rattle.diagnostics.specs.declared.Error.{Error}
-use Rattle.words.specs.Records.{Buffer, buffer, append, appended, full, max_count}
+use Rattle.words.specs.declared.Appended.{Appended}
+use Rattle.words.specs.Records.{Buffer, buffer, append, max_count}
+use Rattle.words.proofs.Records.{append_refused}
+use Rattle.runtime.proofs.Pool.{store_refused}
 use Rattle.environment.specs.declared.Register.{Register}
 use Rattle.environment.specs.declared.Taken.{Taken}
 use Rattle.environment.specs.Registers.{taken}
@@ -103,58 +106,59 @@ module _ (t : Tree) where
     pub stop_by : (gives' : ℕ → B) {b : Bool} → b ≡ is_refusal a → b ≡ true → settled (bind o k) ≡ seen t gives' m a
     stop_by gives' told taken = stop gives' (sym told ∙ taken)
 
-  -- a record appended, by the place or `full` that the program has of it and how many it counted then. `put` is what was made, by the words and the count of the
-  -- buffer: each of the three buffers has one.
-  module _ {B : Type 0} (put : List ℕ → ℕ → Made) (after : Buffer) (ws : List ℕ) (count n : ℕ) (refusal : Refusal) (k : ℕ → Walk B)
-      (left : buffer ws (appended count n refusal) ≡ after) where
-    then_appended : {count' : ℕ} {r : Outcome B} → n ≢ full → count' ≡ (appended count n refusal).count → settled (k n (put ws count')) ≡ r →
+  -- a record appended, by what the program has of it: its place, or why there is none. `put` is what was made, by the words and the count of the buffer: each of the
+  -- three buffers has one.
+  module _ {B : Type 0} (put : List ℕ → ℕ → Made) (after : Buffer) (ws : List ℕ) (a : Appended) (k : ℕ → Walk B) (left : buffer ws a ≡ after) where
+    then_appended : {n : ℕ} {r : Outcome B} → a.place ≡ Ok n → settled (k n (put ws a.count)) ≡ r →
         settled (bind (placed after.answer.place (put after.words after.answer.count)) k) ≡ r
-    unfolding appended placed bind
-    then_appended h e q = rw (← left, ne_eqb n full h) (rw (e, ne_eqb n full h) at q)
+    unfolding placed bind
+    then_appended h q = rw (← left, h) q
 
-    stop_appended : (gives : ℕ → B) → n ≡ full → names_node refusal ≡ false →
+    stop_appended : (count : ℕ) (refusal : Refusal) {e : Refusal} (gives : ℕ → B) → a.place ≡ Err e → (e ≡ refusal) × (a.count ≡ count) → names_node refusal ≡ false →
         settled (bind (placed after.answer.place (put after.words after.answer.count)) k) ≡ seen t gives (put ws count) (refusal_at refusal 0)
-    unfolding appended placed bind settled error_at
-    stop_appended gives h u = rw (← left, eq-eqb n full h) (sym (rw u at (seen_refusal gives (put ws count) refusal 0 (omega arith))))
+    unfolding placed bind settled error_at
+    stop_appended count refusal gives h same u = rw (← left, h, same.0, same.1) (sym (rw u at (seen_refusal gives (put ws count) refusal 0 (omega arith))))
 
-  module _ {B : Type 0} (m : Made) (n : ℕ) (k : ℕ → Walk B) where
+  module _ {B : Type 0} (m : Made) (a : Appended) (k : ℕ → Walk B) where
     -- an instruction emitted
-    module _ (i : Instruction) {op a b c : ℕ} {code : List ℕ} (told : words_of i ≡ op ∷ a ∷ b ∷ c ∷ [])
-        (left : buffer code (appended m.state.instructions n Refusal.Code) ≡ append m.code m.state.instructions max_instructions (op ∷ a ∷ b ∷ c ∷ []) Refusal.Code) where
-      pub then_emitted : {count : ℕ} {r : Outcome B} → n ≢ full → count ≡ (appended m.state.instructions n Refusal.Code).count →
-          settled (k n (with_code code count m)) ≡ r → settled (bind (emit i m) k) ≡ r
+    module _ (i : Instruction) {op x y z : ℕ} {code : List ℕ} (told : words_of i ≡ op ∷ x ∷ y ∷ z ∷ [])
+        (left : buffer code a ≡ append m.code m.state.instructions max_instructions (op ∷ x ∷ y ∷ z ∷ []) Refusal.Code) where
+      pub then_emitted : {n : ℕ} {r : Outcome B} → a.place ≡ Ok n → settled (k n (with_code code a.count m)) ≡ r → settled (bind (emit i m) k) ≡ r
       unfolding emit emit_instruction
-      then_emitted h e q = rw told (then_appended (λ ws count. with_code ws count m) _ code m.state.instructions n Refusal.Code k left h e q)
+      then_emitted h q = rw told (then_appended (λ ws count. with_code ws count m) _ code a k left h q)
 
-      pub stop_emitted : (gives : ℕ → B) → n ≡ full →
+      pub stop_emitted : {e : Refusal} (gives : ℕ → B) → a.place ≡ Err e →
           settled (bind (emit i m) k) ≡ seen t gives (with_code code m.state.instructions m) (refusal_at Refusal.Code 0)
       unfolding emit emit_instruction names_node
-      stop_emitted gives h = rw told (stop_appended (λ ws count. with_code ws count m) _ code m.state.instructions n Refusal.Code k left gives h refl)
+      stop_emitted gives h = rw told (stop_appended (λ ws count. with_code ws count m) _ code a k left _ Refusal.Code gives h (append_refused _ _ _ _ _ left h) refl)
 
     -- a constant pooled
-    module _ (c : Operand) {pool : List ℕ} (left : buffer pool (appended m.state.constants n Refusal.Constants) ≡ store_constant m.constants m.state.constants c) where
-      pub then_stored : {count : ℕ} {r : Outcome B} → n ≢ full → count ≡ (appended m.state.constants n Refusal.Constants).count →
-          settled (k n (with_constants pool count m)) ≡ r → settled (bind (store c m) k) ≡ r
+    module _ (c : Operand) {pool : List ℕ} (left : buffer pool a ≡ store_constant m.constants m.state.constants c) where
+      pub then_stored : {n : ℕ} {r : Outcome B} → a.place ≡ Ok n → settled (k n (with_constants pool a.count m)) ≡ r → settled (bind (store c m) k) ≡ r
       unfolding store
-      then_stored = then_appended (λ ws count. with_constants ws count m) _ pool m.state.constants n Refusal.Constants k left
+      then_stored = then_appended (λ ws count. with_constants ws count m) _ pool a k left
 
-      pub stop_stored : (gives : ℕ → B) → n ≡ full →
+      pub stop_stored : {e : Refusal} (gives : ℕ → B) → a.place ≡ Err e →
           settled (bind (store c m) k) ≡ seen t gives (with_constants pool m.state.constants m) (refusal_at Refusal.Constants 0)
       unfolding store names_node
-      stop_stored gives h = stop_appended (λ ws count. with_constants ws count m) _ pool m.state.constants n Refusal.Constants k left gives h refl
+      stop_stored {e} gives h =
+          let refused = store_refused m.constants m.state.constants c e (rw (← left) h) in
+          stop_appended (λ ws count. with_constants ws count m) _ pool a k left _ Refusal.Constants gives h
+          (refused.0, ap (λ b. b.answer.count) left ∙ refused.1.counted) refl
 
     -- the last instruction marked, where there is one
     module _ (call start end : ℕ) {marks : List ℕ} (there : m.state.instructions ≢ 0)
-        (left : buffer marks (appended m.state.marks n Refusal.Marks) ≡ append m.marks m.state.marks max_count ((m.state.instructions - 1) ∷ []) Refusal.Marks) where
-      pub then_marked : {count : ℕ} {r : Outcome B} → n ≢ full → count ≡ (appended m.state.marks n Refusal.Marks).count →
-          settled (k n (with_marks marks count m)) ≡ r → settled (bind (mark call start end m) k) ≡ r
+        (left : buffer marks a ≡ append m.marks m.state.marks max_count ((m.state.instructions - 1) ∷ []) Refusal.Marks) where
+      pub then_marked : {n : ℕ} {r : Outcome B} → a.place ≡ Ok n → settled (k n (with_marks marks a.count m)) ≡ r → settled (bind (mark call start end m) k) ≡ r
       unfolding mark
-      then_marked h e q = rw (ne_eqb m.state.instructions 0 there) (then_appended (λ ws count. with_marks ws count m) _ marks m.state.marks n Refusal.Marks k left h e q)
+      then_marked h q = rw (ne_eqb m.state.instructions 0 there) (then_appended (λ ws count. with_marks ws count m) _ marks a k left h q)
 
-      pub stop_marked : (gives : ℕ → B) → n ≡ full →
+      pub stop_marked : {e : Refusal} (gives : ℕ → B) → a.place ≡ Err e →
           settled (bind (mark call start end m) k) ≡ seen t gives (with_marks marks m.state.marks m) (refusal_at Refusal.Marks 0)
       unfolding mark names_node
-      stop_marked gives h = rw (ne_eqb m.state.instructions 0 there) (stop_appended (λ ws count. with_marks ws count m) _ marks m.state.marks n Refusal.Marks k left gives h refl)
+      stop_marked gives h =
+          rw (ne_eqb m.state.instructions 0 there)
+          (stop_appended (λ ws count. with_marks ws count m) _ marks a k left _ Refusal.Marks gives h (append_refused _ _ _ _ _ left h) refl)
 
 -- a temporary taken, by what the program has of it: its number, or `none` where no register is free
 module _ (m : Made) {after : Taken} {w : ℕ} (took : after ≡ taken m.state.registers) (number : w ≡ number_at after.place) where
@@ -165,16 +169,16 @@ module _ (m : Made) {after : Taken} {w : ℕ} (took : after ≡ taken m.state.re
   unfolding allocate_temp allocated found registered number_at
   some_allocated h = rw (← took, number) (go after.place place (rw number at h))
     where
-      go : (p : Place) → (taken m.state.registers).place ≡ p → number_at p ≢ none →
+      go : (p : Result ℕ Refusal) → (taken m.state.registers).place ≡ p → number_at p ≢ none →
           registered (found Register.Temp p) (with_registers after.set m) ≡ ends (register_at (number_at p)) (with_registers after.set m)
-      go (Place.At r) e h = rw (register_at_temporary r (place_takes m.state.registers r e).in_range)
-      go (Place.Refused refusal) e h = absurd (h refl)
+      go (Ok r) e h = rw (register_at_temporary r (place_takes m.state.registers r e).in_range)
+      go (Err refusal) e h = absurd (h refl)
 
   pub none_allocated : (t : Tree) → w ≡ none → settled (allocate_temp m) ≡ seen t register_at m (refusal_at Refusal.Registers 0)
   unfolding allocate_temp allocated found registered number_at settled error_at names_node
   none_allocated t h = rw (← took) (go after.place place (sym number ∙ h)) ∙ sym (seen_refusal t register_at m Refusal.Registers 0 (omega arith))
     where
-      go : (p : Place) → (taken m.state.registers).place ≡ p → number_at p ≡ none →
+      go : (p : Result ℕ Refusal) → (taken m.state.registers).place ≡ p → number_at p ≡ none →
           settled (registered (found Register.Temp p) (with_registers after.set m)) ≡ stops (unnamed Refusal.Registers) (settle m)
-      go (Place.At r) e h = absurd (omega (arith, (place_takes m.state.registers r e).in_range))
-      go (Place.Refused refusal) e h = rw (take_refused m.state.registers refusal e).reason
+      go (Ok r) e h = absurd (omega (arith, (place_takes m.state.registers r e).in_range))
+      go (Err refusal) e h = rw (take_refused m.state.registers refusal e).reason

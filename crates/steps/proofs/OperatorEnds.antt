@@ -1,4 +1,5 @@
 -- The end of an operator, by the words of its two sources. At most one of them is the constant, and then it is pooled first. Assumes nothing.
+use Rattle.std.specs.Prelude.{Option}
 use mathlib.Core.Path.{◌≡◌, refl, sym}
 use mathlib.Core.Bool.{Bool, true, false, cond, ◌&&◌, ◌||◌, false≢true}
 use Prim.Native.Nat.{ℕ}
@@ -8,7 +9,6 @@ use Rattle.syntax.specs.declared.ops.BinaryOp.{BinaryOp}
 use Rattle.syntax.specs.declared.ops.Comparison.{Comparison}
 use Rattle.runtime.specs.declared.operand.Operand.{Operand}
 use Rattle.runtime.specs.Operands.{reg_of}
-use Rattle.lowering.specs.declared.Dest.{Dest}
 use Rattle.lowering.specs.Tree.{Tree}
 use Rattle.lowering.specs.Walk.{Made, Outcome, Walk, bind, ret}
 use Rattle.lowering.specs.Steps.{emit, store}
@@ -31,7 +31,7 @@ module _ {A : Type 0} (w : Source → Source → Walk A) (c : Operand) (w₁ w�
   neither false true none = absurd (false≢true (sym none))
   neither false false none = refl
 
-module _ (t : Tree) (E : ℕ → Dest → Walk Operand) (c : Operand) (w₁ w₂ : ℕ) (m : Made) where
+module _ (t : Tree) (E : ℕ → Option Register → Walk Operand) (c : Operand) (w₁ w₂ : ℕ) (m : Made) where
   module _ (operator : BinaryOp) (left right : ℕ) (d : Register) where
     abbrev binary : Source → Source → Walk Operand
     binary = binary_sources (λ x. ret tt) t E operator left right d
@@ -59,7 +59,7 @@ module _ (t : Tree) (E : ℕ → Dest → Walk Operand) (c : Operand) (w₁ w₂
     unfolding binary_sources source_at bind
     binary_registers none q = rw (neither binary c w₁ w₂ m (eqb w₁ literal_word) (eqb w₂ literal_word) none) q
 
-  module _ (sense : Bool) (own : Dest → Walk Operand) (comparison : Comparison) where
+  module _ (sense : Bool) (own : Option Register → Walk Operand) (comparison : Comparison) where
     abbrev fused : Source → Source → Walk ℕ
     fused = fused_sources t E sense own comparison
 

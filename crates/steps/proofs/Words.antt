@@ -1,5 +1,6 @@
 -- The laws of the words of the walk: what a register, a destination, an operand, a refusal and a node left to the walk are read as. Assumes nothing.
-use mathlib.Core.Path.{◌≡◌, refl, sym, ap}
+use Rattle.std.specs.Prelude.{Some, None, Result, Ok, Err}
+use mathlib.Core.Path.{◌≡◌, refl, sym, ap, ◌∙◌}
 use mathlib.Core.Logic.{◌≢◌, ◌⊎◌, inl, inr}
 use mathlib.Core.Bool.{true, false}
 use Prim.Native.Nat.{ℕ, ◌+◌, ◌/◌, ◌%◌, ◌<◌, ◌≤◌}
@@ -7,7 +8,6 @@ use native.Mathlib.Omega.{arith}
 use native.Mathlib.Decide.{dec_lt, ℕ_discrete}
 use borrow.Author.Tests.{lt-ltb, le-ltb, le-leb, lt-leb, leb-false, eq-eqb, ne_eqb}
 use Rattle.diagnostics.specs.declared.Refusal.{Refusal}
-use Rattle.diagnostics.specs.declared.Place.{Place}
 use Rattle.diagnostics.specs.Refusal.{refusal_number}
 use Rattle.environment.specs.declared.Register.{Register}
 use Rattle.environment.specs.declared.RegisterSet.{RegisterSet}
@@ -17,7 +17,6 @@ use Rattle.environment.specs.Environment.{freed}
 use Rattle.environment.proofs.Laws.{place_takes}
 use Rattle.syntax.specs.declared.ast.Node.{Node}
 use Rattle.runtime.specs.Operands.{reg_of}
-use Rattle.lowering.specs.declared.Dest.{Dest}
 use Rattle.lowering.specs.Literals.{literal}
 use Rattle.lowering.specs.Lower.{source}
 use Rattle.lowering.proofs.Destinations.{literal_source}
@@ -43,16 +42,23 @@ module _ (s : RegisterSet) {after : Taken} {w : ℕ} (took : after ≡ taken s) 
   unfolding number_at
   taken_number = rw number (go after.place (sym (ap (λ x. x.place) took)))
     where
-      go : (p : Place) → (taken s).place ≡ p → (number_at p ≡ none) ⊎ (number_at p < 256)
-      go (Place.At r) e = inr (place_takes s r e).in_range
-      go (Place.Refused refusal) e = inl refl
+      go : (p : Result ℕ Refusal) → (taken s).place ≡ p → (number_at p ≡ none) ⊎ (number_at p < 256)
+      go (Ok r) e = inr (place_takes s r e).in_range
+      go (Err refusal) e = inl refl
 
-  pub taken_below : w ≢ none → w < 256
-  taken_below h = go taken_number
-    where
-      go : (w ≡ none) ⊎ (w < 256) → w < 256
-      go (inl e) = absurd (h e)
-      go (inr l) = l
+-- where there is one
+module _ (s : RegisterSet) {after : Taken} {r : ℕ} (took : after ≡ taken s) (e : after.place ≡ Ok r) where
+  pub taken_below : r < 256
+  taken_below = (place_takes s r (sym (ap (λ x. x.place) took) ∙ e)).in_range
+
+  pub taken_number_at : r ≡ number_at after.place
+  unfolding number_at
+  taken_number_at = rw e
+
+-- and where there is none
+pub no_number : {p : Result ℕ Refusal} {e : Refusal} → p ≡ Err e → none ≡ number_at p
+unfolding number_at
+no_number h = rw h
 
 -- the number of a register is its word's lowest byte
 pub reg_of_register_at : (w : ℕ) → w % 256 ≡ reg_of (register_at w)
@@ -77,11 +83,11 @@ unfolding given_back
 freed_literal s = refl
 
 -- a destination
-pub dest_of_any : dest_of any ≡ Dest.Any
+pub dest_of_any : dest_of any ≡ None
 unfolding dest_of
 dest_of_any = refl
 
-pub dest_of_to : (w : ℕ) → w ≢ any → dest_of w ≡ Dest.To (register_at w)
+pub dest_of_to : (w : ℕ) → w ≢ any → dest_of w ≡ Some (register_at w)
 unfolding dest_of
 dest_of_to w h = rw (ne_eqb w any h)
 

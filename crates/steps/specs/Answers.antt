@@ -1,8 +1,7 @@
 -- What a word of the walk means: a register, a destination, an operand, an answer. A contract of the walk equates the definition's outcome with what `seen` makes
 -- of the program's answer: whether it ended or stopped, with what, and all that is left.
-use Rattle.std.specs.Prelude.{ℕ, ◌+◌, ◌*◌, ◌-◌, ◌/◌, ◌%◌, ◌≤◌, ◌<◌, ◌≡◌, ◌⊎◌, Bool, true, false, cond, [], ◌∷◌, leb, ltb, eqb, get_or}
+use Rattle.std.specs.Prelude.{ℕ, ◌+◌, ◌*◌, ◌-◌, ◌/◌, ◌%◌, ◌≤◌, ◌<◌, ◌≡◌, ◌⊎◌, Bool, true, false, cond, [], ◌∷◌, leb, ltb, eqb, get_or, Option, Some, None, Result, Ok, Err}
 use Rattle.diagnostics.specs.declared.Refusal.{Refusal}
-use Rattle.diagnostics.specs.declared.Place.{Place}
 use Rattle.diagnostics.specs.declared.Error.{Error}
 use Rattle.diagnostics.specs.Refusal.{refusal_number}
 pub use Rattle.words.specs.Words.{word_end}
@@ -11,7 +10,6 @@ use Rattle.environment.specs.declared.RegisterSet.{RegisterSet}
 use Rattle.environment.specs.Registers.{register_count, all_free}
 use Rattle.syntax.specs.declared.ast.Node.{Node}
 use Rattle.runtime.specs.declared.operand.Operand.{Operand}
-use Rattle.lowering.specs.declared.Dest.{Dest}
 use Rattle.lowering.specs.declared.State.{State}
 use Rattle.lowering.specs.Tree.{Tree, span_start, span_end}
 use Rattle.lowering.specs.Walk.{Made, Outcome, ends, stops, error}
@@ -30,13 +28,13 @@ none = 4294967295
 abbrev pub any : ℕ
 any = 512
 
-unfoldable pub dest_of : ℕ → Dest
-dest_of w = cond (eqb w any) Dest.Any (Dest.To (register_at w))
+unfoldable pub dest_of : ℕ → Option Register
+dest_of w = cond (eqb w any) None (Some (register_at w))
 
 -- the number of a register that was taken, or `none`
-unfoldable pub number_at : Place → ℕ
-number_at (Place.At r) = r
-number_at (Place.Refused refusal) = none
+unfoldable pub number_at : Result ℕ Refusal → ℕ
+number_at (Ok r) = r
+number_at (Err refusal) = none
 
 -- the word of an operand that is in no register: the node is a literal, which is not pooled yet
 abbrev pub literal_word : ℕ

@@ -5,7 +5,7 @@ ghost use Rattle.environment.specs.Registers.{register_count};
 ghost use Rattle.runtime.specs.Operands.{reg_of};
 ghost use Rattle.steps.specs.Answers.{register_at, number_at, word_end, refusal_at, is_refusal, value_of, number_of_refusal, is_inner};
 
-use diagnostics::{Place, Refusal};
+use diagnostics::Refusal;
 use environment::REGISTERS;
 use lowering::State;
 use words::WORD_END;
@@ -54,13 +54,10 @@ pub fn reg_of(register: u32) -> u32
 
 // The register that was taken, or NONE.
 #[tactic(auto, unfolding(crate::specs::Answers::number_at))]
-pub fn number_at(place: Place) -> u32
+pub fn number_at(place: Result<u32, Refusal>) -> u32
     ensures { result ≡ number_at place }
 {
-    match place {
-        Place::At(r) => r,
-        Place::Refused(_) => NONE,
-    }
+    place.unwrap_or(NONE)
 }
 
 // The node is left to the walk.

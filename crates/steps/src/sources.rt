@@ -1,18 +1,16 @@
 // The end of an operator on two sources. One of them may be LITERAL, a constant: it is pooled, then one instruction is emitted. The functions take two counts and not
 // the state, since no register is taken or given back.
-ghost use Rattle.std.specs.Prelude.{◌≡◌, false, cond, ◌&&◌, List, [], ◌∷◌, ◌≢◌, ℕ, eqb};
-ghost use Rattle.std.proofs.Math.Option.{some};
-ghost use Rattle.diagnostics.specs.declared.Refusal.{Refusal};
+ghost use Rattle.std.specs.Prelude.{◌≡◌, false, cond, ◌&&◌, List, [], ◌∷◌, ◌≢◌, ℕ, eqb, Option, Some, Ok};
+ghost use Rattle.environment.specs.declared.Register.{Register};
 ghost use Rattle.words.specs.Words.{words, tail};
-ghost use Rattle.words.specs.Records.{buffer, appended};
+ghost use Rattle.words.specs.Records.{buffer};
 ghost use Rattle.environment.specs.declared.RegisterSet.{RegisterSet};
 ghost use Rattle.syntax.specs.declared.ops.Comparison.{Comparison};
-ghost use Rattle.syntax.specs.Ops.{binary_op};
 ghost use Rattle.runtime.specs.declared.instruction.Instruction.{Instruction};
 ghost use Rattle.runtime.specs.Instruction.{words_of};
+ghost use Rattle.runtime.specs.Opcode.{opcode_number};
 ghost use Rattle.runtime.specs.Function.{store_constant};
 ghost use Rattle.runtime.specs.Operands.{reg_of};
-ghost use Rattle.lowering.specs.declared.Dest.{Dest};
 ghost use Rattle.lowering.specs.Tree.{Tree};
 ghost use Rattle.lowering.specs.Walk.{Walk, made, bind, ret};
 ghost use Rattle.lowering.specs.Steps.{emit};
@@ -27,8 +25,10 @@ use operators::{
     binary_kr, binary_rk, binary_rr, jump_kr, jump_rk, jump_rr, jump_swaps, swaps, swaps_kr,
 };
 use runtime::function::{emit_instruction, store_constant};
+use runtime::opcode::Opcode;
 use runtime::operand::Operand;
-use words::{FULL, counted};
+use syntax::ops::BinaryOp;
+use words::Appended;
 
 // The first of two operands in the order in which an instruction has them; the second is the first of the two the other way round.
 pub fn first_of(swap: bool, a: u32, b: u32) -> u32
@@ -54,14 +54,14 @@ fn binary_end(
     code: &mut [u8],
     instructions: u32,
     pooled: u32,
-    opcode: u32,
+    opcode: Opcode,
     swap: bool,
     src1: u32,
     src2: u32,
     d: u32,
 ) -> AnswerAndCounts
     ensures step { (t : Tree) (i : Instruction) (rs : RegisterSet) (n : ℕ) (p m : List ℕ) →
-        words_of i ≡ opcode ∷ reg_of (register_at d) ∷ first_of swap src1 src2 ∷ second_of swap src1 src2 ∷ [] →
+        words_of i ≡ opcode_number opcode ∷ reg_of (register_at d) ∷ first_of swap src1 src2 ∷ second_of swap src1 src2 ∷ [] →
         settled (bind (emit i (made (words code.old) p m (state_of rs instructions pooled n))) (λ x. ret (Operand.Register (register_at d))))
         ≡ seen t (λ w. Operand.Register (register_at w)) (made (words code.new) p m (state_of rs result.instructions result.constants n)) result.answer }
     ensures code { tail code.new ≡ tail code.old }
@@ -69,13 +69,12 @@ fn binary_end(
 {
     let a = first_of(swap, src1, src2);
     let b = first_of(swap, src2, src1);
-    let n = emit_instruction(code, instructions, opcode, reg_of(d), a, b);
-    if n == FULL {
+    let emitted = emit_instruction(code, instructions, opcode, reg_of(d), a, b);
+    let Ok(_) = emitted.place else {
         return no_room(instructions, pooled, Refusal::Code);
-    }
-    let count = counted(instructions, n);
+    };
     AnswerAndCounts {
-        instructions: count,
+        instructions: emitted.count,
         constants: pooled,
         answer: d as u64,
     }
@@ -88,14 +87,14 @@ pub fn binary_sources(
     constants: &mut [u8],
     instructions: u32,
     pooled: u32,
-    operator: u32,
+    operator: BinaryOp,
     src1: u32,
     src2: u32,
     constant: Operand,
     d: u32,
 ) -> AnswerAndCounts
-    ensures step { (t : Tree) (E : ℕ → Dest → Walk Operand) (left right : ℕ) (rs : RegisterSet) (n : ℕ) (m : List ℕ) → eqb src1 literal_word && eqb src2 literal_word ≡ false →
-        settled (binary_sources (λ x. ret tt) t E (binary_op operator) left right (register_at d) (source_at constant src1) (source_at constant src2)
+    ensures step { (t : Tree) (E : ℕ → Option Register → Walk Operand) (left right : ℕ) (rs : RegisterSet) (n : ℕ) (m : List ℕ) → eqb src1 literal_word && eqb src2 literal_word ≡ false →
+        settled (binary_sources (λ x. ret tt) t E operator left right (register_at d) (source_at constant src1) (source_at constant src2)
         (made (words code.old) (words constants.old) m (state_of rs instructions pooled n)))
         ≡ seen t (λ w. Operand.Register (register_at w)) (made (words code.new) (words constants.new) m (state_of rs result.instructions result.constants n)) result.answer }
     ensures code { tail code.new ≡ tail code.old }
@@ -103,11 +102,11 @@ pub fn binary_sources(
     ensures word { DestOrRefusal d result.answer }
 {
     if (src1 == LITERAL) | (src2 == LITERAL) {
-        let k = store_constant(constants, pooled, constant);
-        if k == FULL {
+        let stored = store_constant(constants, pooled, constant);
+        let Ok(k) = stored.place else {
             return no_room(instructions, pooled, Refusal::Constants);
-        }
-        let count = counted(pooled, k);
+        };
+        let count = stored.count;
         if src1 == LITERAL {
             return binary_end(
                 code,
@@ -149,23 +148,22 @@ fn jump_end(
     code: &mut [u8],
     instructions: u32,
     pooled: u32,
-    opcode: u32,
+    opcode: Opcode,
     a: u32,
     b: u32,
 ) -> AnswerAndCounts
-    ensures step { (t : Tree) (i : Instruction) (rs : RegisterSet) (n : ℕ) (p m : List ℕ) → words_of i ≡ opcode ∷ a ∷ b ∷ 0 ∷ [] →
+    ensures step { (t : Tree) (i : Instruction) (rs : RegisterSet) (n : ℕ) (p m : List ℕ) → words_of i ≡ opcode_number opcode ∷ a ∷ b ∷ 0 ∷ [] →
         settled (emit i (made (words code.old) p m (state_of rs instructions pooled n)))
         ≡ seen t place_at (made (words code.new) p m (state_of rs result.instructions result.constants n)) result.answer }
     ensures code { tail code.new ≡ tail code.old }
     ensures word { WordOrRefusal result.answer }
 {
-    let n = emit_instruction(code, instructions, opcode, a, b, 0);
-    if n == FULL {
+    let emitted = emit_instruction(code, instructions, opcode, a, b, 0);
+    let Ok(n) = emitted.place else {
         return no_room(instructions, pooled, Refusal::Code);
-    }
-    let count = counted(instructions, n);
+    };
     AnswerAndCounts {
-        instructions: count,
+        instructions: emitted.count,
         constants: pooled,
         answer: n as u64,
     }
@@ -179,13 +177,13 @@ pub fn fused_sources(
     instructions: u32,
     pooled: u32,
     sense: bool,
-    operator: u32,
+    operator: BinaryOp,
     src1: u32,
     src2: u32,
     constant: Operand,
 ) -> AnswerAndCounts
-    ensures step { (t : Tree) (E : ℕ → Dest → Walk Operand) (own : Dest → Walk Operand) (c : Comparison) (rs : RegisterSet) (n : ℕ) (m : List ℕ) →
-        eqb src1 literal_word && eqb src2 literal_word ≡ false → comparison (binary_op operator) ≡ some c →
+    ensures step { (t : Tree) (E : ℕ → Option Register → Walk Operand) (own : Option Register → Walk Operand) (c : Comparison) (rs : RegisterSet) (n : ℕ) (m : List ℕ) →
+        eqb src1 literal_word && eqb src2 literal_word ≡ false → comparison operator ≡ Some c →
         settled (fused_sources t E sense own c (source_at constant src1) (source_at constant src2)
         (made (words code.old) (words constants.old) m (state_of rs instructions pooled n)))
         ≡ seen t place_at (made (words code.new) (words constants.new) m (state_of rs result.instructions result.constants n)) result.answer }
@@ -194,11 +192,11 @@ pub fn fused_sources(
     ensures word { WordOrRefusal result.answer }
 {
     if (src1 == LITERAL) | (src2 == LITERAL) {
-        let k = store_constant(constants, pooled, constant);
-        if k == FULL {
+        let stored = store_constant(constants, pooled, constant);
+        let Ok(k) = stored.place else {
             return no_room(instructions, pooled, Refusal::Constants);
-        }
-        let count = counted(pooled, k);
+        };
+        let count = stored.count;
         if src1 == LITERAL {
             let opcode = jump_kr(sense, operator);
             return jump_end(code, instructions, count, opcode, reg_of(src2), k);
@@ -220,24 +218,17 @@ pub fn fused_sources(
     )
 }
 
-// The field of a source: its register, or the place of its constant, which is pooled, or FULL.
-pub fn field_of(constants: &mut [u8], count: u32, src: u32, constant: Operand) -> u32
-    ensures literal { src ≡ literal_word → buffer (words constants.new) (appended count result Refusal.Constants) ≡ store_constant (words constants.old) count constant }
-    ensures register { src ≢ literal_word → (result ≡ reg_of (register_at src)) × (words constants.new ≡ words constants.old) }
+// The field of a source: its register, or the place of its constant, which is pooled. The count is that of the constants afterwards.
+pub fn field_of(constants: &mut [u8], count: u32, src: u32, constant: Operand) -> Appended
+    ensures literal { src ≡ literal_word → buffer (words constants.new) result ≡ store_constant (words constants.old) count constant }
+    ensures register { src ≢ literal_word → (result ≡ record { count = count; place = Ok (reg_of (register_at src)) }) × (words constants.new ≡ words constants.old) }
     ensures tail { tail constants.new ≡ tail constants.old }
 {
     if src == LITERAL {
         return store_constant(constants, count, constant);
     }
-    reg_of(src)
-}
-
-// How many constants there are once a source's field is there.
-pub fn pooled_by(count: u32, src: u32, field: u32) -> u32
-    ensures { result ≡ cond (eqb src literal_word) (appended count field Refusal.Constants).count count }
-{
-    if src == LITERAL {
-        return counted(count, field);
+    Appended {
+        count,
+        place: Ok(reg_of(src)),
     }
-    count
 }

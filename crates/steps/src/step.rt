@@ -7,16 +7,13 @@ ghost use Rattle.lowering.specs.Walk.{made};
 ghost use Rattle.lowering.specs.Steps.{destination, load_constant, put_offset};
 ghost use Rattle.steps.specs.Answers.{register_at, any, dest_of, settled, seen, RegisterOrRefusal};
 
-use crate::answer::{
-    ANY, AnswerAndState, NONE, answered, is_refusal, number_at, refused, reg_of, value_of,
-};
+use crate::answer::{ANY, AnswerAndState, answered, is_refusal, refused, reg_of, value_of};
 use diagnostics::Refusal;
 use lowering::State;
 use patch::put_offset;
 use runtime::function::{emit_instruction, store_constant};
-use runtime::opcode;
+use runtime::opcode::Opcode;
 use runtime::operand::Operand;
-use words::{FULL, counted};
 
 // The register asked for, else the smallest free one, which is taken.
 #[tactic(auto, using(crate::proofs::Words::refusal_start_lem))]
@@ -28,15 +25,11 @@ pub fn destination(state: State, dest: u32) -> AnswerAndState
         return answered(state, dest);
     }
     let mut s = state;
-    let registers = s.registers;
-    let taken = registers.take();
-    let set = taken.set;
-    let place = taken.place;
-    let register = number_at(place);
-    if register == NONE {
+    let taken = s.registers.take();
+    let Ok(register) = taken.place else {
         return refused(s, Refusal::Registers, 0);
-    }
-    s.registers = set;
+    };
+    s.registers = taken.set;
     answered(s, register)
 }
 
@@ -61,16 +54,16 @@ pub fn load_constant(
     }
     let d = value_of(r.answer);
     let mut s = r.state;
-    let k = store_constant(constants, s.constants, constant);
-    if k == FULL {
+    let pooled = store_constant(constants, s.constants, constant);
+    let Ok(k) = pooled.place else {
         return refused(s, Refusal::Constants, 0);
-    }
-    s.constants = counted(s.constants, k);
-    let n = emit_instruction(code, s.instructions, opcode::LOAD_CONST, reg_of(d), k, 0);
-    if n == FULL {
+    };
+    s.constants = pooled.count;
+    let emitted = emit_instruction(code, s.instructions, Opcode::LoadConst, reg_of(d), k, 0);
+    let Ok(_) = emitted.place else {
         return refused(s, Refusal::Code, 0);
-    }
-    s.instructions = counted(s.instructions, n);
+    };
+    s.instructions = emitted.count;
     answered(s, d)
 }
 

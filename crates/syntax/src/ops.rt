@@ -1,5 +1,8 @@
-// Operators (kaori's syntax/ops.rs), each with its place in the order.
-#[derive(Drop)]
+// Operators (kaori's syntax/ops.rs), each with its place in the order, which is its word in a node.
+ghost use Rattle.std.specs.Prelude.{◌≡◌};
+ghost use Rattle.syntax.specs.Ops.{binary_op, unary_op};
+
+#[derive(Clone, Copy)]
 pub enum BinaryOp {
     Add,
     Subtract,
@@ -14,7 +17,7 @@ pub enum BinaryOp {
     LessEqual,
 }
 
-#[derive(Drop)]
+#[derive(Clone, Copy)]
 pub enum UnaryOp {
     Negate,
     Deref,
@@ -29,4 +32,39 @@ pub enum Comparison {
     GreaterEqual,
     Less,
     LessEqual,
+}
+
+impl BinaryOp {
+    // The operator of a word; a word past the last operator reads as the last.
+    #[tactic(auto, using(crate::proofs::Tables::get_or_past), unfolding(crate::specs::Ops::binary_op))]
+    pub fn of(word: u32) -> BinaryOp
+        ensures { result ≡ binary_op word }
+    {
+        match word {
+            0 => BinaryOp::Add,
+            1 => BinaryOp::Subtract,
+            2 => BinaryOp::Multiply,
+            3 => BinaryOp::Divide,
+            4 => BinaryOp::Modulo,
+            5 => BinaryOp::Equal,
+            6 => BinaryOp::NotEqual,
+            7 => BinaryOp::Greater,
+            8 => BinaryOp::GreaterEqual,
+            9 => BinaryOp::Less,
+            _ => BinaryOp::LessEqual,
+        }
+    }
+}
+
+impl UnaryOp {
+    // The operator of a word, likewise.
+    #[tactic(auto, using(crate::proofs::Tables::get_or_past), unfolding(crate::specs::Ops::unary_op))]
+    pub fn of(word: u32) -> UnaryOp
+        ensures { result ≡ unary_op word }
+    {
+        match word {
+            0 => UnaryOp::Negate,
+            _ => UnaryOp::Deref,
+        }
+    }
 }

@@ -1,36 +1,48 @@
--- Laws of a record of answers, as the replay's loops need them: where a line and the comments end, that two lists of bytes are the same, and one case more.
+-- Laws of a record of answers, as the replay's loops need them: where a line and the comments end, and one case more.
 -- Assumes nothing.
+use Rattle.std.specs.Prelude.{Option, Some, None}
+use Rattle.std.specs.Option.{MatchOption}
+use Rattle.std.specs.List.{position, position_or_len}
 use Prim.Native.Nat.{ℕ, zero, suc, ◌+◌, ◌-◌, ◌≤◌, ◌<◌}
 use native.Mathlib.Omega.{arith}
 use native.Mathlib.Decide.{ℕ_discrete, dec_le}
-use native.Mathlib.Numerals.{add-one, unary_clauses}
+use native.Mathlib.Numerals.{unary_clauses}
 use mathlib.Core.Path.{◌≡◌, refl, sym, ap, ◌∙◌}
 use mathlib.Core.List.{List, [], ◌∷◌}
-use mathlib.Core.Bool.{Bool, true, false, false≢true, cond}
-use lib.Dec.{eqb}
+use mathlib.Core.Bool.{Bool, true, false, not, cond}
+use lib.Dec.{ltb, eqb}
 use lib.ListN.{length, get_or, drop, drop_of_length-le}
 use lib.Seq.{drop-cons, drop-drop}
-use borrow.Author.Tests.{ne_eqb, le-leb, lt-leb}
-use Rattle.words.specs.Records.{same_words}
-use Rattle.words.proofs.Search.{same_equal, equal_same}
+use borrow.Author.Tests.{ltb-true, ltb-false, ne_eqb, le-leb, lt-leb}
 use Rattle.listing.specs.Text.{line_feed}
 use Rattle.vectors.specs.declared.Case.{Case}
 use Rattle.vectors.specs.Answers.{hash, line_length, line_end, comments_length, comments_end, case_at, cases_told, first_at, cases_from, agrees, agreeing, differing, end_of, outcome}
 
 -- ---- lines
 
-module _ (s : List ℕ) (i : ℕ) where
-  pub line_end_out : length s ≤ i → line_end s i ≡ i
-  unfolding line_length
-  line_end_out l = rw (drop_of_length-le s l) (omega arith)
+-- the bytes before the first line feed, or all
+abbrev before_feed : List ℕ → ℕ
+before_feed = position_or_len (λ b. eqb b line_feed)
 
-  pub line_end_feed : i < length s → get_or s i 0 ≡ line_feed → line_end s i ≡ i + 1
-  unfolding line_length
-  line_end_feed l e = rw (drop-cons s i 0 l, e)
+line_length_lem : (s : List ℕ) → (before_feed s < length s → line_length s ≡ before_feed s + 1) × (length s ≤ before_feed s → line_length s ≡ length s)
+unfolding line_length
+line_length_lem [] = (λ h. absurd (omega arith), λ h. refl)
+line_length_lem (b ∷ s) = go (eqb b line_feed) (line_length_lem s)
+  where
+    go : (feed : Bool) → (before_feed s < length s → line_length s ≡ before_feed s + 1) × (length s ≤ before_feed s → line_length s ≡ length s)
+        → (cond (not feed) (1 + before_feed s) 0 < suc (length s) → cond feed 1 (suc (line_length s)) ≡ cond (not feed) (1 + before_feed s) 0 + 1)
+        × (suc (length s) ≤ cond (not feed) (1 + before_feed s) 0 → cond feed 1 (suc (line_length s)) ≡ suc (length s))
+    go true e = (λ h. refl, λ h. absurd (omega arith))
+    go false e = (λ h. omega (arith, e.0 (omega arith)), λ h. omega (arith, e.1 (omega arith)))
 
-  pub line_end_more : i < length s → (get_or s i 0 ≡ line_feed → ⊥) → line_end s i ≡ line_end s (i + 1)
-  unfolding line_length
-  line_end_more l n = rw (drop-cons s i 0 l, ne_eqb (get_or s i 0) line_feed n, add-one i) (omega arith)
+-- by what a search for a line feed finds
+pub line_found : (s : List ℕ) (r : Option ℕ) → r ≡ position (λ b. eqb b line_feed) s → MatchOption r (line_length s ≡ length s) (λ i. line_length s ≡ i + 1)
+line_found s r e = rw e (go (ltb (before_feed s) (length s)) refl)
+  where
+    go : (here : Bool) → ltb (before_feed s) (length s) ≡ here
+        → MatchOption (cond here (Some (before_feed s)) None) (line_length s ≡ length s) (λ i. line_length s ≡ i + 1)
+    go true l = (line_length_lem s).0 (ltb-true _ _ l)
+    go false l = (line_length_lem s).1 (ltb-false _ _ l)
 
 -- ---- comments
 
@@ -89,17 +101,6 @@ module _ (s : List ℕ) (at : ℕ) where
       go : (feed : Bool) → at < at + cond feed 1 (suc (line_length (drop (suc at) s)))
       go true = omega arith
       go false = omega arith
-
--- ---- bytes
-
--- whoever says true of equal lists, and of no others, says what `same_words` does
-pub same_words_lem : (s t : List ℕ) (r : Bool) → (r ≡ true → s ≡ t) → (s ≡ t → r ≡ true) → r ≡ same_words s t
-same_words_lem s t true only all = sym (rw (only refl) (equal_same t))
-same_words_lem s t false only all = go (same_words s t) refl
-  where
-    go : (b : Bool) → same_words s t ≡ b → false ≡ same_words s t
-    go true e = absurd (false≢true (all (same_equal s t e)))
-    go false e = sym e
 
 -- ---- cases
 

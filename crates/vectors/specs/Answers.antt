@@ -1,17 +1,13 @@
 -- A record of answers: how it is laid out, which cases it has, and what their replay gives. `at`, and each name that ends in At or End, is an offset in bytes from
 -- the start of the record s.
 use Rattle.std.specs.Prelude.{ℕ, zero, suc, ◌+◌, ◌-◌, ◌*◌, List, [], ◌∷◌, Bool, true, false, cond, leb, eqb, length, take, drop}
-use Rattle.words.specs.Records.{same_words}
-use Rattle.listing.specs.declared.column.Column.{Column}
-use Rattle.listing.specs.Column.{column_bytes, read_column}
+use Rattle.std.specs.Option.{unwrap_or}
+use Rattle.std.specs.Str.{bytes_eq}
+use Rattle.listing.specs.Column.{column_bytes, read_column, column_number}
 use Rattle.listing.specs.Text.{line_feed}
 use Rattle.listing.specs.Output.{lowerlist}
 use Rattle.vectors.specs.declared.Case.{Case}
 use Rattle.vectors.specs.declared.Outcome.{Outcome}
-
--- the bytes of the program's buffer for a record
-abbrev pub record_bytes : ℕ
-record_bytes = 1572864
 
 -- ---- the layout: lines that begin with '#'; a line with the number of cases; the cases
 
@@ -38,15 +34,9 @@ comments_length false (b ∷ s) = suc (comments_length (eqb b line_feed) s)
 abbrev pub comments_end : List ℕ → ℕ
 comments_end s = comments_length true s
 
--- the number that a column has; 0 where it has none
-unfoldable pub column_number : Column → ℕ
-column_number Column.Blank = 0
-column_number (Column.Number x) = x
-column_number Column.Bad = 0
-
--- the number in the column that begins at `at`
+-- the number in the column that begins at `at`; 0 where it has none
 abbrev pub number : List ℕ → ℕ → ℕ
-number s at = column_number (read_column (drop at s))
+number s at = unwrap_or (column_number (read_column (drop at s))) 0
 
 -- the columns of a case's line that have the lengths of its text and of its answer
 abbrev pub text_column : ℕ
@@ -95,7 +85,7 @@ part s from to = take (to - from) (drop from s)
 
 -- whether the answer of a case is what its text prints
 unfoldable pub agrees : List ℕ → Case → Bool
-agrees s c = same_words (lowerlist (part s c.text c.answer)) (part s c.answer c.next)
+agrees s c = bytes_eq (lowerlist (part s c.text c.answer)) (part s c.answer c.next)
 
 -- of cases, given by where their lines begin: how many agree
 unfoldable pub agreeing : List ℕ → List ℕ → ℕ

@@ -2,20 +2,15 @@
 #![tactic(auto)]
 
 ghost use Rattle.std.specs.Prelude.{◌≡◌, ◌≤◌, length};
-ghost use Rattle.words.specs.Records.{same_words};
+ghost use Rattle.std.specs.Str.{bytes_eq};
 ghost use Rattle.listing.specs.Output.{lowerlist};
-ghost use Rattle.vectors.specs.Answers.{record_bytes, line_end, comments_end, number, case_at, outcome};
+ghost use Rattle.vectors.specs.Answers.{line_end, comments_end, number, case_at, outcome};
 
-use check::same;
-use input::read_full;
-use listing::column::{COLUMN_BYTES, Column, read_column};
+use listing::column::{COLUMN_BYTES, read_column};
 use listing::text::LINE_FEED;
 use lower_text::{list, listing_buffer};
 use std::io::Write;
 use std::{fs, io};
-
-// More bytes than the record has. A record that fills the buffer is cut, and its last cases do not agree.
-const RECORD_BYTES: usize = 1572864;
 
 // The columns of a case's first line that say how long its text and its answer are.
 const TEXT_COLUMN: usize = 2;
@@ -41,53 +36,39 @@ struct Outcome {
 
 // Whether `answer` is the listing of `text`.
 fn agrees(text: &[u8], answer: &[u8]) -> bool
-    ensures { result ≡ same_words (lowerlist text.now) answer.now }
+    ensures { result ≡ bytes_eq (lowerlist text.now) answer.now }
 {
     let mut out = listing_buffer();
     let printed = list(text, &mut out);
-    same(&out[..printed], answer)
+    &out[..printed] == answer
 }
 
 // The number in the column at `at`; 0 where there is none.
-#[tactic(auto, unfolding(crate::specs::Answers::column_number))]
 fn number(s: &[u8], at: usize) -> u32
     ensures { result ≡ number s.now at }
 {
-    let c = read_column(s, at);
-    match c {
-        Column::Blank => 0,
-        Column::Number(x) => x,
-        Column::Bad => 0,
-    }
+    read_column(s, at).unwrap_or(0)
 }
 
 // The end of the line at `at`: past its line feed, or the end of `s`.
-#[tactic(auto, using(crate::proofs::Laws::line_end_out, crate::proofs::Laws::line_end_feed, crate::proofs::Laws::line_end_more))]
 fn line_end(s: &[u8], at: usize) -> usize
     requires { at ≤ length s.now }
     ensures end { result ≡ line_end s.now at }
     ensures within { result ≤ length s.now }
 {
-    let mut i = at;
-    while i < s.len() {
-        if s[i] == LINE_FEED {
-            return i + 1;
-        }
-        i += 1;
+    match s[at..].iter().position(|b| *b == LINE_FEED) {
+        Some(i) => at + i + 1,
+        None => s.len(),
     }
-    i
 }
 
-// The end of the lines that begin with '#'.
+// The end of the lines that begin with '#'. A `while`: the step is a line, and not one byte.
 #[tactic(auto, using(crate::proofs::Laws::comments_out, crate::proofs::Laws::comments_none, crate::proofs::Laws::comments_more, crate::proofs::Laws::line_end_past))]
 fn comments_end(s: &[u8]) -> usize
     ensures { result ≡ comments_end s.now }
 {
     let mut at = 0;
-    while at < s.len() {
-        if s[at] != b'#' {
-            return at;
-        }
+    while at < s.len() && s[at] == b'#' {
         at = line_end(s, at);
     }
     at
@@ -111,27 +92,22 @@ fn replay(answers: &[u8]) -> Outcome
     ensures outcome { result ≡ outcome answers.now }
     ensures within { result.differing ≤ length answers.now }
 {
-    let mut at = comments_end(answers);
-    let cases = number(answers, at);
-    at = line_end(answers, at);
+    let comments = comments_end(answers);
+    let cases = number(answers, comments);
+    let mut at = line_end(answers, comments);
     let mut differing = answers.len();
     let mut agreeing: u32 = 0;
-    let mut i: u32 = 0;
-    while i < cases {
+    for i in 0..cases {
         let c = case_at(answers, at);
-        let text = c.text;
-        let answer = c.answer;
-        let next = c.next;
-        if answers.len() < next {
+        if answers.len() < c.next {
             break;
         }
-        if agrees(&answers[text..answer], &answers[answer..next]) {
+        if agrees(&answers[c.text..c.answer], &answers[c.answer..c.next]) {
             agreeing += 1;
         } else if agreeing == i {
             differing = at;
         }
-        at = next;
-        i += 1;
+        at = c.next;
     }
     Outcome {
         cases,
@@ -145,28 +121,17 @@ fn replay(answers: &[u8]) -> Outcome
 fn report<R: Print>(rt: &R, answers: &[u8], r: Outcome) -> io::Result<()>
     requires { r.differing ≤ length answers.now }
 {
-    let agreeing = r.agreeing;
-    let cases = r.cases;
-    println!(rt; "{agreeing} of {cases} answers agree")?;
-    let differing = r.differing;
-    let end = line_end(answers, differing);
-    io::writer(rt).write_all(&answers[differing..end])?;
+    println!(rt; "{} of {} answers agree", r.agreeing, r.cases)?;
+    let end = line_end(answers, r.differing);
+    io::writer(rt).write_all(&answers[r.differing..end])?;
     if r.end != answers.len() {
         println!(rt; "the record is cut, or goes on behind its last case")?;
     }
     Ok(())
 }
 
-// Zeros, for the record. The `ensures` gives only the length, which lending the array as a slice needs.
-fn buffer() -> [u8; RECORD_BYTES]
-    ensures { record_bytes ≡ length result }
-{
-    [0; RECORD_BYTES]
-}
-
 fn main(rt: HostRuntime) -> io::Result<()> {
-    let mut answers = buffer();
-    let size = read_full(&mut fs::open(&rt, "answers.txt")?, &mut answers)?;
-    let r = replay(&answers[..size]);
-    report(&rt, &answers[..size], r)
+    let answers = fs::read(&rt, "answers.txt")?;
+    let r = replay(&answers);
+    report(&rt, &answers, r)
 }

@@ -1,5 +1,6 @@
 -- The laws of records, once, over the width w. Each follows from what `sets` leaves at an index: before the run, in it and past it.
 -- Assumes nothing.
+use Rattle.std.specs.Prelude.{Ok, Err}
 use mathlib.Core.Path.{◌≡◌, refl, sym, ap, ◌∙◌}
 use mathlib.Core.List.{List, [], ◌∷◌, ◌++◌, append_assoc}
 use mathlib.Core.Logic.{◌≢◌}
@@ -10,13 +11,12 @@ use native.Mathlib.Decide.{dec_lt}
 use native.Mathlib.Numerals.{add-one}
 use lib.ListN.{length, get_or, set, take, drop, length-set, drop_of_length-le}
 use lib.Seq.{take-nil, set_comm, get_or-set_same, ext_get_or, sets, length-sets, sets-eq, take-set-le, drop-set-lt, set_out, drop-cons, get_or-take, get_or-drop, take_at, drop_at, length-take-le}
-use borrow.Author.Tests.{lt-ltb, le-ltb, eq-eqb, ne_eqb}
+use borrow.Author.Tests.{lt-ltb, le-ltb, ltb-true}
 use mathlib.Core.Bool.{Bool, cond, ◌&&◌, true, false}
-use lib.Dec.{ltb, eqb}
+use lib.Dec.{ltb}
 use Rattle.diagnostics.specs.declared.Refusal.{Refusal}
-use Rattle.diagnostics.specs.declared.Place.{Place}
 use Rattle.words.specs.declared.Appended.{Appended}
-use Rattle.words.specs.Records.{capacity, record_at, put_record, append, appended, full, buffer}
+use Rattle.words.specs.Records.{capacity, record_at, put_record, append, Buffer, buffer}
 
 -- a run of stores that starts past the end changes nothing
 pub sets_out : (l : List ℕ) (i : ℕ) (vs : List ℕ) → length l ≤ i → sets l i vs ≡ l
@@ -184,43 +184,48 @@ module _ (w : ℕ) (ws : List ℕ) (p : ℕ) (r : List ℕ) (e : length r ≡ w)
 -- an append, by what it asks
 module _ (ws : List ℕ) (count limit : ℕ) (r : List ℕ) (refusal : Refusal) where
   pub append_room : count < limit → count < capacity (length r) ws →
-      append ws count limit r refusal ≡ buffer (put_record (length r) ws count r) (record { count = count + 1; place = Place.At count })
+      append ws count limit r refusal ≡ buffer (put_record (length r) ws count r) (record { count = count + 1; place = Ok count })
   unfolding append
   append_room l h = rw (lt-ltb count limit l, lt-ltb count (capacity (length r) ws) h)
 
-  pub append_full : capacity (length r) ws ≤ count → append ws count limit r refusal ≡ buffer ws (record { count = count; place = Place.Refused refusal })
+  pub append_full : capacity (length r) ws ≤ count → append ws count limit r refusal ≡ buffer ws (record { count = count; place = Err refusal })
   unfolding append
   append_full h = rw (le-ltb count (capacity (length r) ws) h) (go (ltb count limit))
     where
       go : (b : Bool) → cond (b && false)
-          (buffer (put_record (length r) ws count r) (record { count = count + 1; place = Place.At count }))
-          (buffer ws (record { count = count; place = Place.Refused refusal })) ≡ buffer ws (record { count = count; place = Place.Refused refusal })
+          (buffer (put_record (length r) ws count r) (record { count = count + 1; place = Ok count }))
+          (buffer ws (record { count = count; place = Err refusal })) ≡ buffer ws (record { count = count; place = Err refusal })
       go true = refl
       go false = refl
 
-  pub append_limit : limit ≤ count → append ws count limit r refusal ≡ buffer ws (record { count = count; place = Place.Refused refusal })
+  pub append_limit : limit ≤ count → append ws count limit r refusal ≡ buffer ws (record { count = count; place = Err refusal })
   unfolding append
   append_limit h = rw (le-ltb count limit h)
 
--- a place that is not the count counts nothing
-pub appended_kept : (count place : ℕ) (refusal : Refusal) → (place ≡ count → ⊥) → count ≡ (appended count place refusal).count
-unfolding appended
-appended_kept count place refusal h = rw (ne_eqb place count h) (go (eqb place full))
-  where
-    go : (b : Bool) → count ≡ (cond {A = Appended} b (record { count = count; place = Place.Refused refusal }) (record { count = count; place = Place.At place })).count
-    go true = refl
-    go false = refl
+-- an append by its answer
+module _ (ws : List ℕ) (count limit : ℕ) (r : List ℕ) (refusal : Refusal) {ws' : List ℕ} {a : Appended} (left : buffer ws' a ≡ append ws count limit r refusal) where
+  -- the answer, by whether there is place
+  abbrev answers : Bool → Appended
+  answers b =
+      (cond {A = Buffer} b
+      (buffer (put_record (length r) ws count r) (record { count = count + 1; place = Ok count }))
+      (buffer ws (record { count = count; place = Err refusal }))).answer
 
--- an append's answer by one number: a new record, one that was found, or none
-module _ (count : ℕ) (refusal : Refusal) where
-  pub appended_new : count < full → appended count count refusal ≡ record { count = count + 1; place = Place.At count }
-  unfolding appended
-  appended_new h = rw (ne_eqb count full (λ e. absurd (omega arith)), eq-eqb count count refl)
+  -- a place that is answered is below the limit
+  pub append_placed : {n : ℕ} → a.place ≡ Ok n → n < limit
+  unfolding append
+  append_placed {n} h = go (ltb count limit) (ltb count (capacity (length r) ws)) refl (ap (λ b. b.answer) left)
+    where
+      go : (b c : Bool) → ltb count limit ≡ b → a ≡ answers (b && c) → n < limit
+      go true true l same = let is : n ≡ count = cc in rw is (ltb-true _ _ l)
+      go true false l same = let z : ◌≡◌ {A = ℕ} 0 1 = cc in absurd (omega arith)
+      go false c l same = let z : ◌≡◌ {A = ℕ} 0 1 = cc in absurd (omega arith)
 
-  pub appended_found : (place : ℕ) → place < count → place < full → appended count place refusal ≡ record { count = count; place = Place.At place }
-  unfolding appended
-  appended_found place l h = rw (ne_eqb place full (λ e. absurd (omega arith)), ne_eqb place count (λ e. absurd (omega arith)))
-
-  pub appended_full : appended count full refusal ≡ record { count = count; place = Place.Refused refusal }
-  unfolding appended
-  appended_full = refl
+  -- where none is, the refusal is that of the append, and nothing is counted
+  pub append_refused : {e : Refusal} → a.place ≡ Err e → (e ≡ refusal) × (a.count ≡ count)
+  unfolding append
+  append_refused {e} h = go (ltb count limit && ltb count (capacity (length r) ws)) (ap (λ b. b.answer) left)
+    where
+      go : (b : Bool) → a ≡ answers b → (e ≡ refusal) × (a.count ≡ count)
+      go true same = let z : ◌≡◌ {A = ℕ} 0 1 = cc in absurd (omega arith)
+      go false same = (cc, ap (λ (x : Appended). x.count) same)

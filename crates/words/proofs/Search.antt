@@ -1,4 +1,5 @@
 -- The laws of a search: the same words, and the first record that is a given one. Assumes nothing.
+use Rattle.std.specs.Prelude.{Option, Some, None}
 use mathlib.Core.Path.{◌≡◌, refl, sym, ap₂, ◌∙◌}
 use mathlib.Core.List.{List, [], ◌∷◌}
 use mathlib.Core.Bool.{Bool, true, false, cond, ◌&&◌}
@@ -11,7 +12,7 @@ use lib.ListN.{length, get_or, take, drop, drop_of_length-le, get_or-eq_default}
 use lib.Seq.{drop-cons}
 use lib.Dec.{ltb, eqb}
 use borrow.Author.Tests.{eq-eqb, ne_eqb, lt-ltb, le-ltb, eqb-true, ltb-true}
-use Rattle.words.specs.Records.{capacity, record_at, same_words, is_at, position_from, position, last_position, full, First}
+use Rattle.words.specs.Records.{capacity, record_at, same_words, is_at, position_from, position, first_position, last_position, First}
 
 false≢true : false ≡ true → ⊥
 false≢true e = let z : ◌≡◌ {A = ℕ} 0 1 = cc in omega arith
@@ -76,7 +77,8 @@ module _ (ws : List ℕ) (at : ℕ) (r : List ℕ) where
       let n : length r - k ≡ 0 = omega arith in
       rw (n, drop_of_length-le r h)
 
-first : (ws r : List ℕ) (n p : ℕ) → First ws r n p (position_from ws r n p)
+-- what a search from any place on gives
+pub first : (ws r : List ℕ) (n p : ℕ) → First ws r n p (position_from ws r n p)
 unfolding position_from
 first ws r zero p = record { start = omega arith; within = omega arith; found = λ h. absurd (omega arith); before = λ j a b. absurd (omega arith) }
 first ws r (suc n) p = go (is_at ws r p) refl (first ws r n (suc p))
@@ -149,9 +151,37 @@ past_none ws r (suc n) p h = rw (le-ltb p (capacity (length r) ws) h) (past_none
 pub search_past : (ws r : List ℕ) (count p : ℕ) {q : ℕ} → position_from ws r (count - p) p ≡ q → p < count → capacity (length r) ws ≤ p → count ≡ q
 search_past ws r count p i l h = let e : p + (count - p) ≡ count = omega arith in sym e ∙ sym (past_none ws r (count - p) p h) ∙ i
 
+-- what the search for a record answers, by the place where it ends
+module _ (ws r : List ℕ) (count : ℕ) {p : ℕ} (e : p ≡ position ws r count) where
+  pub first_some : p < count → Some p ≡ first_position ws r count
+  unfolding first_position
+  first_some h = rw (← e, lt-ltb p count h)
+
+  pub first_none : count ≤ p → None ≡ first_position ws r count
+  unfolding first_position
+  first_none h = rw (← e, le-ltb p count h)
+
+-- and what that answer says of the place
+module _ (ws r : List ℕ) (count : ℕ) where
+  pub first_is : {p : ℕ} → Some p ≡ first_position ws r count → (position ws r count ≡ p) × (p < count)
+  unfolding first_position
+  first_is {p} e = go (ltb (position ws r count) count) refl e
+    where
+      go : (b : Bool) → ltb (position ws r count) count ≡ b → Some p ≡ cond b (Some (position ws r count)) None → (position ws r count ≡ p) × (p < count)
+      go true t e = let same : position ws r count ≡ p = cc in (same, rw same at (ltb-true _ _ t))
+      go false t e = let z : ◌≡◌ {A = ℕ} 0 1 = cc in absurd (omega arith)
+
+  pub first_is_none : None ≡ first_position ws r count → ltb (position ws r count) count ≡ false
+  unfolding first_position
+  first_is_none e = go (ltb (position ws r count) count) refl e
+    where
+      go : (b : Bool) → ltb (position ws r count) count ≡ b → None ≡ cond b (Some (position ws r count)) None → b ≡ false
+      go true t e = let z : ◌≡◌ {A = ℕ} 0 1 = cc in absurd (omega arith)
+      go false t e = refl
+
 -- the search from the end: the word is found, the search goes on, and it ends
-module _ (ws : List ℕ) (x i : ℕ) {q : ℕ} (e : last_position ws i x ≡ q) where
-  pub last_found : 0 < i → get_or ws (i - 1) 0 ≡ x → i - 1 ≡ q
+module _ (ws : List ℕ) (x i : ℕ) {q : Option ℕ} (e : last_position ws i x ≡ q) where
+  pub last_found : 0 < i → get_or ws (i - 1) 0 ≡ x → Some (i - 1) ≡ q
   unfolding last_position
   last_found h t = let n : i ≡ suc (i - 1) = omega arith in rw (eq-eqb _ _ t) at (rw n at e)
 
@@ -159,12 +189,12 @@ module _ (ws : List ℕ) (x i : ℕ) {q : ℕ} (e : last_position ws i x ≡ q) 
   unfolding last_position
   last_more h t = let n : i ≡ suc (i - 1) = omega arith in rw (ne_eqb _ _ t) at (rw n at e)
 
-  pub last_end : i ≡ 0 → full ≡ q
+  pub last_end : i ≡ 0 → None ≡ q
   unfolding last_position
   last_end z = rw z at e
 
 -- past the last word all are 0
-pub last_zero : (ws : List ℕ) (n : ℕ) → length ws < n → n - 1 ≡ last_position ws n 0
+pub last_zero : (ws : List ℕ) (n : ℕ) → length ws < n → Some (n - 1) ≡ last_position ws n 0
 last_zero ws n h = last_found ws 0 n refl (omega arith) (get_or-eq_default ws 0 (omega arith))
 
 -- and none is another

@@ -1,9 +1,8 @@
 -- Records of w words, one after the other: "Node, six words", "Instruction, four words", "Constant, three words"; a list word, a name and a
 -- mark are records of one.
-use Rattle.std.specs.Prelude.{ℕ, zero, suc, ◌+◌, ◌*◌, ◌/◌, ◌≤◌, ◌<◌, ◌≡◌, List, [], ◌∷◌, Bool, true, false, cond, ◌&&◌, ltb, eqb, length, get_or, take, drop}
+use Rattle.std.specs.Prelude.{ℕ, zero, suc, ◌+◌, ◌*◌, ◌/◌, ◌≤◌, ◌<◌, ◌≡◌, List, [], ◌∷◌, Bool, true, false, cond, ◌&&◌, ltb, eqb, length, get_or, take, drop, Option, Some, None, Ok, Err}
 use Rattle.std.proofs.lemmas.List.Edits.{sets}
 use Rattle.diagnostics.specs.declared.Refusal.{Refusal}
-use Rattle.diagnostics.specs.declared.Place.{Place}
 use Rattle.words.specs.declared.Appended.{Appended}
 
 -- "whole records": how many a buffer holds
@@ -38,14 +37,14 @@ position_from ws r (suc n) p = cond (is_at ws r p) p (position_from ws r n (suc 
 unfoldable pub position : List ℕ → List ℕ → ℕ → ℕ
 position ws r count = position_from ws r count 0
 
--- the largest word, in answers that have no place to give: there was no room, or nothing was found
-abbrev pub full : ℕ
-full = 4294967295
+-- the same, none where none is
+unfoldable pub first_position : List ℕ → List ℕ → ℕ → Option ℕ
+first_position ws r count = cond (ltb (position ws r count) count) (Some (position ws r count)) None
 
--- the place of the last of the first n words that is x, or `full`
-unfoldable pub last_position : List ℕ → ℕ → ℕ → ℕ
-last_position ws zero x = full
-last_position ws (suc n) x = cond (eqb (get_or ws n 0) x) n (last_position ws n x)
+-- the place of the last of the first n words that is x
+unfoldable pub last_position : List ℕ → ℕ → ℕ → Option ℕ
+last_position ws zero x = None
+last_position ws (suc n) x = cond (eqb (get_or ws n 0) x) (Some n) (last_position ws n x)
 
 -- the most records that a count of 32 bits can say
 abbrev pub max_count : ℕ
@@ -59,19 +58,12 @@ pub record Buffer : Type 0 where
 abbrev pub buffer : List ℕ → Appended → Buffer
 buffer ws a = record { words = ws; answer = a }
 
--- an append's answer, read from one number: the place, or `full`; a record that was found, at a place below the count, is not counted again
-unfoldable pub appended : ℕ → ℕ → Refusal → Appended
-appended count place refusal =
-    cond (eqb place full)
-    (record { count = count; place = Place.Refused refusal })
-    (record { count = cond (eqb place count) (count + 1) count; place = Place.At place })
-
 -- a record put after the first `count` ones, "with fewer than" `limit` "made" and "place for the next"; otherwise the buffer as it was, and the refusal
 unfoldable pub append : List ℕ → ℕ → ℕ → List ℕ → Refusal → Buffer
 append ws count limit r refusal =
     cond (ltb count limit && ltb count (capacity (length r) ws))
-    (buffer (put_record (length r) ws count r) (record { count = count + 1; place = Place.At count }))
-    (buffer ws (record { count = count; place = Place.Refused refusal }))
+    (buffer (put_record (length r) ws count r) (record { count = count + 1; place = Ok count }))
+    (buffer ws (record { count = count; place = Err refusal }))
 
 -- "the pool gives the first equal constant", for records of any width. q is what a search gives that looks for r among the n records from p on: the place of
 -- the first that is r, or p + n where none is

@@ -4,16 +4,15 @@
 ghost use Rattle.std.specs.Prelude.{◌≡◌, ◌+◌, ◌<◌, ◌≤◌, length, get_or, set, take, drop};
 ghost use Rattle.std.proofs.lemmas.List.Edits.{sets};
 ghost use Rattle.words.specs.Words.{byte_end, words, tail};
-ghost use Rattle.words.specs.Records.{capacity, same_words, position, last_position, append, appended, buffer};
-ghost use Rattle.diagnostics.specs.declared.Refusal.{Refusal};
+ghost use Rattle.words.specs.Records.{capacity, same_words, first_position, last_position, append, buffer};
 
-use diagnostics::Place;
+use diagnostics::Refusal;
 
 // How many records a buffer holds after an append, and the place of the new one or why there is none.
-#[derive(Drop)]
+#[derive(Clone, Copy)]
 pub struct Appended {
     pub count: u32,
-    pub place: Place,
+    pub place: Result<u32, Refusal>,
 }
 
 // The bytes of a word.
@@ -24,9 +23,6 @@ pub const WORD_END: u64 = 4294967296;
 
 // The most records that a count of 32 bits can say.
 pub const MAX_COUNT: u32 = 4294967295;
-
-// The largest word, in answers that have no place to give: there was no room, or nothing was found. No buffer holds so many records.
-pub const FULL: u32 = 4294967295;
 
 fn wide(x: u8) -> u32
     ensures { (result ≡ x) × (result < byte_end) }
@@ -88,10 +84,8 @@ fn put_record(s: &mut [u8], at: usize, xs: &[u32])
     ensures words { words s.new ≡ sets (words s.old) at xs.now }
     ensures tail { tail s.new ≡ tail s.old }
 {
-    let mut k = 0;
-    while k < xs.len() {
-        put_whole(s, at + k, xs[k]);
-        k += 1;
+    for (k, x) in xs.iter().enumerate() {
+        put_whole(s, at + k, *x);
     }
 }
 
@@ -123,9 +117,9 @@ pub fn capacity(s: &[u8], width: usize) -> usize
     }
 }
 
-// Puts a record after the first `count` ones, if fewer than `limit` are made and the buffer has room for it. The answer is its place, or FULL.
-pub fn append(s: &mut [u8], count: u32, limit: u32, item: &[u32]) -> u32
-    ensures words { (refusal : Refusal) → buffer (words s.new) (appended count result refusal) ≡ append (words s.old) count limit item.now refusal }
+// Puts a record after the first `count` ones, if fewer than `limit` are made and the buffer has room for it; otherwise it is refused.
+pub fn append(s: &mut [u8], count: u32, limit: u32, item: &[u32], refusal: Refusal) -> Appended
+    ensures words { buffer (words s.new) result ≡ append (words s.old) count limit item.now refusal }
     ensures tail { tail s.new ≡ tail s.old }
 {
     let width = item.len();
@@ -133,23 +127,16 @@ pub fn append(s: &mut [u8], count: u32, limit: u32, item: &[u32]) -> u32
     if count < limit {
         if at < capacity(s, width) {
             put_record(s, width * at, item);
-            return count;
+            return Appended {
+                count: count + 1,
+                place: Ok(count),
+            };
         }
     }
-    FULL
-}
-
-// How many records there are once one is at `place`: a new one counts, one that was found does not.
-#[tactic(auto, using(crate::proofs::Records::appended_new, crate::proofs::Records::appended_full, crate::proofs::Records::appended_kept))]
-pub fn counted(count: u32, place: u32) -> u32
-    ensures { (refusal : Refusal) → result ≡ (appended count place refusal).count }
-{
-    if place == count {
-        if place < FULL {
-            return count + 1;
-        }
+    Appended {
+        count,
+        place: Err(refusal),
     }
-    count
 }
 
 // Whether the words from `at` on are those of `item`. Constants differ in their last word more often than in their first, which is their kind.
@@ -157,9 +144,7 @@ fn same_words(s: &[u8], at: usize, item: &[u32]) -> bool
     requires { at + length item.now ≤ length (words s.now) }
     ensures { result ≡ same_words (take (length item.now) (drop at (words s.now))) item.now }
 {
-    let mut k = item.len();
-    while 0 < k {
-        k -= 1;
+    for k in (0..item.len()).rev() {
         if whole_word(s, at + k) != item[k] {
             return false;
         }
@@ -167,9 +152,9 @@ fn same_words(s: &[u8], at: usize, item: &[u32]) -> bool
     true
 }
 
-// The place of the first of the first `count` records that is `item`, or `count`.
-pub fn position(s: &[u8], count: u32, item: &[u32]) -> u32
-    ensures { result ≡ position (words s.now) item.now count }
+// The place of the first of the first `count` records that is `item`.
+pub fn position(s: &[u8], count: u32, item: &[u32]) -> Option<u32>
+    ensures { result ≡ first_position (words s.now) item.now count }
 {
     let width = item.len();
     let records = capacity(s, width);
@@ -178,33 +163,30 @@ pub fn position(s: &[u8], count: u32, item: &[u32]) -> u32
     } else {
         count
     };
-    let mut p: u32 = 0;
-    while p < end {
+    for p in 0..end {
         if same_words(s, width * (p as usize), item) {
-            return p;
+            return Some(p);
         }
-        p += 1;
     }
-    count
+    None
 }
 
-// The place of the last of the first `count` words that is x, or FULL. Words past the last whole one are 0.
-pub fn last_position(s: &[u8], count: u32, x: u32) -> u32
+// The place of the last of the first `count` words that is x. Words past the last whole one are 0.
+pub fn last_position(s: &[u8], count: u32, x: u32) -> Option<u32>
     ensures { result ≡ last_position (words s.now) count x }
 {
     let words = s.len() / WORD_BYTES;
-    let mut i = count as usize;
-    if words < i {
+    let mut end = count as usize;
+    if words < end {
         if x == 0 {
-            return count - 1;
+            return Some(count - 1);
         }
-        i = words;
+        end = words;
     }
-    while 0 < i {
-        i -= 1;
+    for i in (0..end).rev() {
         if whole_word(s, i) == x {
-            return i as u32;
+            return Some(i as u32);
         }
     }
-    FULL
+    None
 }

@@ -7,7 +7,4 @@ pub returns : goal.returns
 returns c =
     let told = c.lower-r.ensures in
     let listed = tree_listing_lem _ (λ i. omega (arith, c.type_inv.nodes i)) _ _ _ _ c.lower-r.result told.result told.code told.constants told.marks in
-    record {
-      bytes = rw (c.write_listing.ensures.bytes, c.numbers_of-numbers.ensures, listed);
-      length = rw (c.write_listing.ensures.length, c.numbers_of-numbers.ensures, listed);
-    }
+    rw (← listed, ← c.numbers_of.ensures) c.write_listing.ensures

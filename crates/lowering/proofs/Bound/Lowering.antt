@@ -1,11 +1,11 @@
 -- The walk takes no bound: of a checked tree, any bound above a node's index gives the same, and a node is lowered by its children's own
 -- lowering. Assumes nothing.
+use Rattle.std.specs.Prelude.{Option, Some, None}
 use Prim.Native.Nat.{ℕ, zero, suc, ◌+◌, ◌*◌, ◌≤◌, ◌<◌}
 use native.Mathlib.Omega.{arith}
 use mathlib.Core.Path.{◌≡◌, refl, ap, ◌∙◌, fun_ext}
 use mathlib.Core.Logic.{◌≢◌}
 use mathlib.Core.Bool.{Bool, true, false}
-use mathlib.Core.Option.{Option, none, some}
 use lib.Dec.{eqb}
 use lib.ListN.{get_or}
 use borrow.Author.Tests.{eqb-false}
@@ -15,7 +15,6 @@ use Rattle.syntax.specs.declared.ops.BinaryOp.{BinaryOp}
 use Rattle.syntax.specs.declared.ops.Comparison.{Comparison}
 use Rattle.syntax.specs.Ast.{absent}
 use Rattle.runtime.specs.declared.operand.Operand.{Operand}
-use Rattle.lowering.specs.declared.Dest.{Dest}
 use Rattle.lowering.specs.Tree.{Tree, node}
 use Rattle.lowering.specs.Checked.{Checked, Below, CallBelow, MapBelow}
 use Rattle.lowering.specs.Walk.{Walk}
@@ -25,7 +24,7 @@ use Rattle.lowering.specs.Lower.{Source, register, constant, name_of, binary_sou
 use Rattle.lowering.proofs.Questions.Checked.{checked_below}
 
 -- two ways to lower a child that agree below node i
-module _ (t : Tree) (E F : ℕ → Dest → Walk Operand) (i : ℕ) (same : (n : ℕ) → n < i → E n ≡ F n) where
+module _ (t : Tree) (E F : ℕ → Option Register → Walk Operand) (i : ℕ) (same : (n : ℕ) → n < i → E n ≡ F n) where
   binary_sources_same : (operator : BinaryOp) (left right : ℕ) (d : Register) (a b : Source) → left < i → right < i →
       binary_sources free_temp t E operator left right d a b ≡ binary_sources free_temp t F operator left right d a b
   unfolding binary_sources
@@ -71,14 +70,14 @@ module _ (t : Tree) (E F : ℕ → Dest → Walk Operand) (i : ℕ) (same : (n :
   lower_entry_same : (d : Register) (key value : ℕ) (name : Option ℕ) → key < i → (value ≢ absent → value < i) →
       lower_entry t E d key value name ≡ lower_entry t F d key value name
   unfolding lower_entry
-  lower_entry_same d key value (some name) l h = go (eqb value absent) refl
+  lower_entry_same d key value (Some name) l h = go (eqb value absent) refl
     where
-      go : (b : Bool) → eqb value absent ≡ b → lower_entry t E d key value (some name) ≡ lower_entry t F d key value (some name)
+      go : (b : Bool) → eqb value absent ≡ b → lower_entry t E d key value (Some name) ≡ lower_entry t F d key value (Some name)
       go true e = rw (e, same key l)
       go false e = rw (e, same value (h (eqb-false value absent e))) (simp store_named_same)
-  lower_entry_same d key value none l h = go (eqb value absent) refl
+  lower_entry_same d key value None l h = go (eqb value absent) refl
     where
-      go : (b : Bool) → eqb value absent ≡ b → lower_entry t E d key value none ≡ lower_entry t F d key value none
+      go : (b : Bool) → eqb value absent ≡ b → lower_entry t E d key value None ≡ lower_entry t F d key value None
       go true e = rw e
       go false e = rw (e, same key l, same value (h (eqb-false value absent e))) (simp store_keyed_same)
 
@@ -96,7 +95,7 @@ module _ (t : Tree) (E F : ℕ → Dest → Walk Operand) (i : ℕ) (same : (n :
 
   -- a node is lowered the same by both
   module _ (J K : ℕ → Walk ℕ) (jumps : (n : ℕ) → n < i → J n ≡ K n) where
-    lower_node_same : (n : Node) (dest : Dest) → Below t i n → lower_node free_temp t E J i n dest ≡ lower_node free_temp t F K i n dest
+    lower_node_same : (n : Node) (dest : Option Register) → Below t i n → lower_node free_temp t E J i n dest ≡ lower_node free_temp t F K i n dest
     unfolding lower_node
     lower_node_same (Node.Number low high) dest b = refl
     lower_node_same (Node.String symbol) dest b = refl
@@ -122,7 +121,7 @@ module _ (t : Tree) (E F : ℕ → Dest → Walk Operand) (i : ℕ) (same : (n :
         let all : 0 + count ≤ count = omega arith in
         simp (lower_entries_same b)
 
-  fused_sources_same : (sense : Bool) (own : Dest → Walk Operand) (c : Comparison) (a b : Source) →
+  fused_sources_same : (sense : Bool) (own : Option Register → Walk Operand) (c : Comparison) (a b : Source) →
       fused_sources t E sense own c a b ≡ fused_sources t F sense own c a b
   unfolding fused_sources test
   fused_sources_same sense own c (register a) (register b) = refl
@@ -130,13 +129,13 @@ module _ (t : Tree) (E F : ℕ → Dest → Walk Operand) (i : ℕ) (same : (n :
   fused_sources_same sense own c (constant a) (register b) = refl
   fused_sources_same sense own c (constant a) (constant b) = refl
 
-  fused_same : (sense : Bool) (own : Dest → Walk Operand) (c : Option Comparison) (left right : ℕ) → left < i → right < i →
+  fused_same : (sense : Bool) (own : Option Register → Walk Operand) (c : Option Comparison) (left right : ℕ) → left < i → right < i →
       fuse t E sense own c left right ≡ fuse t F sense own c left right
   unfolding fuse test
-  fused_same sense own none left right l r = refl
-  fused_same sense own (some c) left right l r = rw (same left l, same right r) (simp fused_sources_same)
+  fused_same sense own None left right l r = refl
+  fused_same sense own (Some c) left right l r = rw (same left l, same right r) (simp fused_sources_same)
 
-  jump_node_same : (sense : Bool) (own : Dest → Walk Operand) (n : Node) → Below t i n → jump_node t E sense own n ≡ jump_node t F sense own n
+  jump_node_same : (sense : Bool) (own : Option Register → Walk Operand) (n : Node) → Below t i n → jump_node t E sense own n ≡ jump_node t F sense own n
   unfolding jump_node test
   jump_node_same sense own (Node.Number low high) b = refl
   jump_node_same sense own (Node.String symbol) b = refl
@@ -156,8 +155,8 @@ module _ (t : Tree) (E F : ℕ → Dest → Walk Operand) (i : ℕ) (same : (n :
 
 module _ {t : Tree} (checked : Checked t) where
   -- one step, by what lowers the children as the bound f does
-  module _ (f i : ℕ) (E : ℕ → Dest → Walk Operand) (same : (n : ℕ) → n < i → expression_below free_temp t f n ≡ E n) where
-    expression_step : (J : ℕ → Walk ℕ) → ((n : ℕ) → n < i → jump_below free_temp t f n ≡ J n) → (d : Dest) →
+  module _ (f i : ℕ) (E : ℕ → Option Register → Walk Operand) (same : (n : ℕ) → n < i → expression_below free_temp t f n ≡ E n) where
+    expression_step : (J : ℕ → Walk ℕ) → ((n : ℕ) → n < i → jump_below free_temp t f n ≡ J n) → (d : Option Register) →
         expression_below free_temp t (suc f) i d ≡ lower_node free_temp t E J i (node t i) d
     unfolding expression_below
     expression_step J jumps d = lower_node_same t (expression_below free_temp t f) E i same (jump_below free_temp t f) J jumps (node t i) d (checked_below checked i)
@@ -178,16 +177,16 @@ module _ {t : Tree} (checked : Checked t) where
       (own, jump_step f i (expression_below free_temp t g) same ∙ ap (λ e. jump_node t (expression_below free_temp t g) false e (node t i)) own)
 
   -- any bound above the index gives the same
-  pub expression_any_bound : (f i : ℕ) → i < f → (d : Dest) → expression_below free_temp t f i d ≡ lower_expression free_temp t i d
+  pub expression_any_bound : (f i : ℕ) → i < f → (d : Option Register) → expression_below free_temp t f i d ≡ lower_expression free_temp t i d
   unfolding lower_expression
-  expression_any_bound f i h d = ap (λ (e : Dest → Walk Operand). e d) (two_bounds f (suc i) i h (omega arith)).0
+  expression_any_bound f i h d = ap (λ (e : Option Register → Walk Operand). e d) (two_bounds f (suc i) i h (omega arith)).0
 
   pub jump_any_bound : (f i : ℕ) → i < f → jump_below free_temp t f i ≡ lower_jump_if_false free_temp t i
   unfolding lower_jump_if_false
   jump_any_bound f i h = (two_bounds f (suc i) i h (omega arith)).1
 
   -- so a node is lowered by its children's own lowering
-  pub expression_at : (i : ℕ) (d : Dest) → lower_expression free_temp t i d ≡ lower_node free_temp t (lower_expression free_temp t) (lower_jump_if_false free_temp t) i (node t i) d
+  pub expression_at : (i : ℕ) (d : Option Register) → lower_expression free_temp t i d ≡ lower_node free_temp t (lower_expression free_temp t) (lower_jump_if_false free_temp t) i (node t i) d
   unfolding lower_expression
   expression_at i d = expression_step i i (lower_expression free_temp t) (λ n l. fun_ext (expression_any_bound i n l)) (lower_jump_if_false free_temp t) (jump_any_bound i) d
 

@@ -14,7 +14,7 @@ use Rattle.lowering.specs.Tree.{tree_of, Tree}
 use Rattle.lowering.specs.Questions.{Verdict, passed, refused, questions}
 use Rattle.lowering.specs.Walk.{Made, Outcome, ends, stops}
 use Rattle.lowering.specs.Steps.{free_temp}
-use Rattle.lowering.specs.Result.{result, begin, lower_root, lowered_of, lower_checked, lower}
+use Rattle.lowering.specs.Result.{begin, lower_root, lowered_of, lower_checked, lower}
 use Rattle.lowering.specs.Law.{Accepted, instructions, StandsIn, Setting, Start, LawOf, RunningLaw, as_lowered}
 use Rattle.lowering.proofs.Questions.Passed.{few_parameters}
 use Rattle.lowering.proofs.Running.Law.{runs, exactly, once, parameters, short, defined}

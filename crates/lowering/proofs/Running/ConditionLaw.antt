@@ -1,4 +1,5 @@
 -- The law of conditions: a run of a condition's code, patched to a goal, read off the machine's own steps; and of `lower`. Assumes nothing.
+use Rattle.std.specs.Prelude.{Option, Some, None}
 use Prim.Native.Nat.{ℕ, zero, suc, ◌+◌, ◌≤◌, ◌<◌}
 use native.Mathlib.Omega.{arith}
 use native.Mathlib.Nat.{le_refl, zero-add}
@@ -6,7 +7,6 @@ use native.Mathlib.Decide.{dec_le}
 use mathlib.Core.Path.{◌≡◌, refl, sym, ap, ◌∙◌, subst}
 use mathlib.Core.List.{List}
 use mathlib.Core.Bool.{Bool, true, false, cond, not, ◌&&◌, beq, false≢true}
-use mathlib.Core.Option.{Option, none, some}
 use lib.Dec.{eqb}
 use lib.ListN.{length}
 use borrow.Author.Tests.{eqb-true, eq-eqb, le-ltb}
@@ -22,7 +22,7 @@ use Rattle.lowering.specs.Questions.{Verdict, passed, refused, questions}
 use Rattle.lowering.specs.Result.{Lowered, result, lowered, begin, lower_root, lowered_of, lower_checked, lower, patch_jump}
 use Rattle.lowering.specs.Meaning.{val, fail, Operators, Evaluation, evaluates, fails, undefined, given, value_at}
 use Rattle.lowering.specs.Machine.{record_in, fetch, constant_at, constant_of, target, Ending, returned, failed, lost, Registers, Now, ended, step_at, machine_step, after}
-use Rattle.lowering.specs.Conditions.{mode_of, Entry, Goal, code_end, test_of, run_to, LeftBy, UpTo, Exactly, ConditionOf, ConditionLaw}
+use Rattle.lowering.specs.Conditions.{mode_of, Entry, Goal, test_of, run_to, LeftBy, UpTo, Exactly, ConditionOf, ConditionLaw}
 use Rattle.lowering.specs.Trace.{JumpKind}
 use Rattle.lowering.specs.Answers.{MayPatch}
 use Rattle.lowering.proofs.Running.Steps.{Holds, holds_ends, count, Room, kind_is, offset_there, offset_others, offset_capacity}
@@ -134,13 +134,13 @@ unfolding unit_operators
 unit_values r = tt
 
 -- nothing is fetched outside of the code
-no_record : (w : ℕ) (ws : List ℕ) (n q : ℕ) → n ≤ q → record_in w ws n q ≡ none
+no_record : (w : ℕ) (ws : List ℕ) (n q : ℕ) → n ≤ q → record_in w ws n q ≡ None
 unfolding record_in
 no_record w ws n q h = rw (le-ltb q n h)
 
-outside : (ws : List ℕ) (n q : ℕ) → n ≤ q → fetch ws n q ≡ none
+outside : (ws : List ℕ) (n q : ℕ) → n ≤ q → fetch ws n q ≡ None
 unfolding fetch
-outside ws n q h = ap (λ (o : Option (List ℕ)). elim o [ some r ↦ decode r | none ↦ none ]) (no_record instruction_width ws n q h)
+outside ws n q h = ap (λ (o : Option (List ℕ)). elim o [ Some r ↦ decode r | None ↦ None ]) (no_record instruction_width ws n q h)
 
 own_sense : (b : Bool) (y n : ℕ) → cond (beq b b) y n ≡ y
 own_sense true y n = refl

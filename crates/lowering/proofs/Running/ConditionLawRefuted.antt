@@ -11,7 +11,7 @@ use Rattle.syntax.specs.Ops.{binary_op}
 use Rattle.runtime.specs.Instruction.{decode, offset_word}
 use Rattle.lowering.specs.Tree.{Tree}
 use Rattle.lowering.specs.Steps.{put_offset}
-use Rattle.lowering.specs.Result.{Lowered, result, can_patch, patch_jump}
+use Rattle.lowering.specs.Result.{Lowered, can_patch, patch_jump}
 use Rattle.lowering.specs.Meaning.{met, operate, last_named, node_value, value_below, value_at, condition_asks, node_asks, condition_asks_below, asks_below, OrderPremise, ConditionPremise}
 use Rattle.lowering.specs.Machine.{record_in, fetch, target, action, Registers, Now, act, step_at, machine_step, after}
 use Rattle.lowering.specs.Conditions.{Entry, Goal, test_of, run_to, LeftBy, ConditionOf}

@@ -1,11 +1,11 @@
 -- A condition, of either sense, and the if keep the promise, if their children do. Assumes nothing.
+use Rattle.std.specs.Prelude.{Option, Some, None}
 use Prim.Native.Nat.{ℕ, suc, ◌+◌, ◌-◌, ◌≤◌, ◌<◌}
 use native.Mathlib.Omega.{arith}
 use native.Mathlib.Nat.{le_refl}
 use mathlib.Core.Path.{◌≡◌, refl, sym, ap, ◌∙◌, subst, subst₂}
 use mathlib.Core.Bool.{Bool, true, false, cond, beq}
 use mathlib.Core.List.{[], ◌∷◌}
-use mathlib.Core.Option.{some}
 use lib.Dec.{eqb}
 use lib.ListN.{get_or}
 use Rattle.diagnostics.specs.declared.Refusal.{Refusal}
@@ -19,16 +19,15 @@ use Rattle.runtime.specs.declared.operand.Operand.{Operand}
 use Rattle.runtime.specs.Operands.{reg_of}
 use Rattle.runtime.specs.Instruction.{words_of, decode, offset_word}
 use Rattle.runtime.specs.Value.{constant_words}
-use Rattle.lowering.specs.declared.Dest.{Dest}
 use Rattle.lowering.specs.Tree.{Tree, present}
-use Rattle.lowering.specs.Walk.{Made, Walk, bind, ◌>>=◌, ◌>>◌}
+use Rattle.lowering.specs.Walk.{Made, Walk}
 use Rattle.lowering.specs.Operators.{comparison, jump_rr, jump_rk, jump_kr, jump_if}
 use Rattle.lowering.specs.Steps.{free_temp}
 use Rattle.lowering.specs.Lower.{Source, source, lower_materializing, lower_else, lower_node, refuse, test, fused_sources, fuse}
 use Rattle.lowering.specs.Meaning.{Operators, Hypotheses, truth, OrderAt, Evaluation, undefined, given, and_then, IfAny, operate, tests, Chosen, AtRoot, Named, first, total}
 use Rattle.lowering.specs.Machine.{target, Ending, failed, Registers, action, act, onward, branch, step_at}
 use Rattle.lowering.specs.Trace.{JumpKind}
-use Rattle.lowering.proofs.Running.Decode.{constant, constant_words_lem, aim}
+use Rattle.lowering.proofs.Running.Decode.{constant_words_lem, aim}
 use Rattle.lowering.proofs.Running.Steps.{Holds, fine, void, chain, weaken, count, instruction_at, Room, Grown, grown_refl, grown_trans, grown_at, InstructionPut, OffsetPut, emit_holds, patch_holds, pool_holds}
 use Rattle.lowering.proofs.Walk.InstructionsFit.{kind_jump_RR, kind_jump_RK, kind_jump_KR, kind_jump_if}
 use Rattle.lowering.proofs.Running.MachineRuns.{After, after_bind, ask_bind, after_map, after_ask, Known, known_bind, known_given, after_pair, sensed, after_sensed, premise_pair, premise_map, after_truth, after_given, World, up, Run, Onto, run_moved, step_words, target_forward, run_goes, run_jump, asked, OrderOf, Branches, sense_RR, sense_RK, sense_KR}
@@ -44,19 +43,19 @@ module _ (M : Operators) (args : ℕ → M.Value) (arity : ℕ) where
     pub short : count m' ≤ count m + s + 1
     pub known : Known ans
     pub jump : JumpKind (get_or (instruction_at m' j) 0 0)
-    pub sim : (laws : Hypotheses M) (w : World M) (k goal : ℕ) → target (w.base + j) k ≡ some goal → Final w (count m) j m' →
+    pub sim : (laws : Hypotheses M) (w : World M) (k goal : ℕ) → target (w.base + j) k ≡ Some goal → Final w (count m) j m' →
         w.code (w.base + j) ≡ decode (aim k (instruction_at m' j)) → w.base + j < w.limit → (R : Registers M) (e : Ending M) → Params M args arity R → fair →
-        After (λ v. After (λ b. (R' : Registers M) → Keeps M args arity m Dest.Any R R' → Onto M arity w (w.base + j) (cond (beq b sense) goal (w.base + suc j)) R' e)
+        After (λ v. After (λ b. (R' : Registers M) → Keeps M args arity m None R R' → Onto M arity w (w.base + j) (cond (beq b sense) goal (w.base + suc j)) R' e)
         (λ x. e ≡ failed x) (given (M.test v))) (λ x. e ≡ failed x) ans →
         Run M arity w (w.base + count m) R e
 
-target_later : (arity : ℕ) (dest : Dest) {b : ℕ} {m m' : Made} → Grown b m m' → Target arity m dest → Target arity m' dest
-target_later arity Dest.Any g t = tt
-target_later arity (Dest.To d) g t = (t.0, g.held (reg_of d) t.1)
+target_later : (arity : ℕ) (dest : Option Register) {b : ℕ} {m m' : Made} → Grown b m m' → Target arity m dest → Target arity m' dest
+target_later arity None g t = tt
+target_later arity (Some d) g t = (t.0, g.held (reg_of d) t.1)
 
-spot_back : (arity : ℕ) (dest : Dest) {b : ℕ} {m m' : Made} (r : Register) → Grown b m m' → Spot arity dest m' r → Spot arity dest m r
-spot_back arity Dest.Any r g s = loose_back arity r g s
-spot_back arity (Dest.To d) r g s = s
+spot_back : (arity : ℕ) (dest : Option Register) {b : ℕ} {m m' : Made} (r : Register) → Grown b m m' → Spot arity dest m' r → Spot arity dest m r
+spot_back arity None r g s = loose_back arity r g s
+spot_back arity (Some d) r g s = s
 
 by_bool : (b : Bool) (Q P : Bool → Type 0) → (Q true → P true) → (Q false → P false) → Q b → P b
 by_bool true Q P f g h = f h
@@ -64,11 +63,11 @@ by_bool false Q P f g h = g h
 
 module _ (M : Operators) (t : Tree) (args : ℕ → M.Value) (arity : ℕ) (sense : Bool) where
   -- a register tested
-  pub tested_good : (E : ℕ → Dest → Walk Operand) {m : Made} {s : ℕ} {fair C : Type 0} {ans : Evaluation M.Failure M.Value} (own : Dest → Walk Operand) → Owns arity m →
-      Holds (AsOperand M t args arity m Dest.Any s fair ans) (own Dest.Any m) → Holds (Jumped M args arity sense m s (fair × C) ans) (test t E sense own m)
+  pub tested_good : (E : ℕ → Option Register → Walk Operand) {m : Made} {s : ℕ} {fair C : Type 0} {ans : Evaluation M.Failure M.Value} (own : Option Register → Walk Operand) → Owns arity m →
+      Holds (AsOperand M t args arity m None s fair ans) (own None m) → Holds (Jumped M args arity sense m s (fair × C) ans) (test t E sense own m)
   unfolding test lower_materializing
   tested_good E {m} {s} {fair} {C} {ans} own o h =
-      chain (chain h (λ u m1 x. materialized_good M args arity {m = m} {dest = Dest.Any} o tt x)) (λ r m2 q.
+      chain (chain h (λ u m1 x. materialized_good M args arity {m = m} {dest = None} o tt x)) (λ r m2 q.
       weaken (emit_holds (jump_if sense (reg_of r)) m2) (λ j m3 g.
       let l1 = q.grown.kept.more in
       let l2 = q.short in
@@ -130,8 +129,8 @@ module _ (M : Operators) (t : Tree) (args : ℕ → M.Value) (arity : ℕ) (sens
             (λ b kb. after_given (laws.boolean_tests b) kb R1 p1))))));
       }
 
-  module _ (E : ℕ → Dest → Walk Operand) (W : ℕ → Evaluation M.Failure M.Value) (S : ℕ → ℕ) (A : ℕ → Type 0) (P : ℕ → Type 0)
-      (good : (i : ℕ) → P i → (dest : Dest) (m : Made) → Owns arity m → Target arity m dest → Holds (AsOperand M t args arity m dest (S i) (A i) (W i)) (E i dest m)) where
+  module _ (E : ℕ → Option Register → Walk Operand) (W : ℕ → Evaluation M.Failure M.Value) (S : ℕ → ℕ) (A : ℕ → Type 0) (P : ℕ → Type 0)
+      (good : (i : ℕ) → P i → (dest : Option Register) (m : Made) → Owns arity m → Target arity m dest → Holds (AsOperand M t args arity m dest (S i) (A i) (W i)) (E i dest m)) where
     -- what a binary condition promises
     abbrev TwoJumped : BinaryOp → ℕ → ℕ → Made → ℕ → Made → Type 0
     TwoJumped op l r m =
@@ -141,7 +140,7 @@ module _ (M : Operators) (t : Tree) (args : ℕ → M.Value) (arity : ℕ) (sens
     -- what its own lowering promises
     abbrev TwoLowered : BinaryOp → ℕ → ℕ → Made → Operand → Made → Type 0
     TwoLowered op l r m =
-        AsOperand M t args arity m Dest.Any (1 + (S l + (S r + 0))) (A l × IfAny (λ a. A r) (W l)) (and_then (W l) (λ a. and_then (W r) (λ b. given (operate M op a b))))
+        AsOperand M t args arity m None (1 + (S l + (S r + 0))) (A l × IfAny (λ a. A r) (W l)) (and_then (W l) (λ a. and_then (W r) (λ b. given (operate M op a b))))
 
     resized_jump : {m m' : Made} {s z j : ℕ} {fair : Type 0} {ans : Evaluation M.Failure M.Value} → s ≤ z → Jumped M args arity sense m s fair ans j m' → Jumped M args arity sense m z fair ans j m'
     resized_jump l q =
@@ -149,9 +148,9 @@ module _ (M : Operators) (t : Tree) (args : ℕ → M.Value) (arity : ℕ) (sens
         record { grown = q.grown; start = q.start; level = q.level; short = omega arith; known = q.known; jump = q.jump; sim = q.sim }
 
     fused_sources_lem : (op : BinaryOp) (c : Comparison) → ((a b : M.Value) → operate M op a b ≡ truth M (asked M c a b)) →
-        ((a b : M.Value) → OrderAt M t args op a b → OrderOf M c a b) → (l r : ℕ) (x y : Source) {m m1 m2 : Made} (own : Dest → Walk Operand) → Owns arity m →
-        Holds (TwoLowered op l r m) (own Dest.Any m) →
-        Expr M args arity m Dest.Any (S l) (A l) (W l) x m1 → Expr M args arity m1 Dest.Any (S r) (A r) (W r) y m2 →
+        ((a b : M.Value) → OrderAt M t args op a b → OrderOf M c a b) → (l r : ℕ) (x y : Source) {m m1 m2 : Made} (own : Option Register → Walk Operand) → Owns arity m →
+        Holds (TwoLowered op l r m) (own None m) →
+        Expr M args arity m None (S l) (A l) (W l) x m1 → Expr M args arity m1 None (S r) (A r) (W r) y m2 →
         Holds (TwoJumped op l r m) (fused_sources t E sense own c x y m2)
     unfolding fused_sources
     fused_sources_lem op c asks orders l r (Source.register u) (Source.register v) {m} {m1} {m2} own o h ex ey =
@@ -183,16 +182,16 @@ module _ (M : Operators) (t : Tree) (args : ℕ → M.Value) (arity : ℕ) (sens
     fused_sources_lem op c asks orders l r (Source.constant b) (Source.constant b') {m} own o h (literal e p1 q1) (literal e' p2 q2) = tested_good E own o h
 
     fused_good : (op : BinaryOp) (c : Comparison) → ((a b : M.Value) → operate M op a b ≡ truth M (asked M c a b)) →
-        ((a b : M.Value) → OrderAt M t args op a b → OrderOf M c a b) → (l r : ℕ) → P l → P r → (m : Made) (own : Dest → Walk Operand) → Owns arity m →
-        Holds (TwoLowered op l r m) (own Dest.Any m) → Holds (TwoJumped op l r m) (fuse t E sense own (some c) l r m)
+        ((a b : M.Value) → OrderAt M t args op a b → OrderOf M c a b) → (l r : ℕ) → P l → P r → (m : Made) (own : Option Register → Walk Operand) → Owns arity m →
+        Holds (TwoLowered op l r m) (own None m) → Holds (TwoJumped op l r m) (fuse t E sense own (Some c) l r m)
     unfolding fuse
     fused_good op c asks orders l r pl pr m own o h =
-        chain (good l pl Dest.Any m o tt) (λ u m1 x.
-        chain (good r pr Dest.Any m1 (grown_owns arity (operand_ready M args arity x).grown o) tt) (λ v m2 y.
+        chain (good l pl None m o tt) (λ u m1 x.
+        chain (good r pr None m1 (grown_owns arity (operand_ready M args arity x).grown o) tt) (λ v m2 y.
         fused_sources_lem op c asks orders l r (source u) (source v) own o h x y))
 
-    pub binary_jumped : (op : BinaryOp) (l r : ℕ) → P l → P r → (m : Made) (own : Dest → Walk Operand) → Owns arity m →
-        Holds (TwoLowered op l r m) (own Dest.Any m) → Holds (TwoJumped op l r m) (fuse t E sense own (comparison op) l r m)
+    pub binary_jumped : (op : BinaryOp) (l r : ℕ) → P l → P r → (m : Made) (own : Option Register → Walk Operand) → Owns arity m →
+        Holds (TwoLowered op l r m) (own None m) → Holds (TwoJumped op l r m) (fuse t E sense own (comparison op) l r m)
     unfolding comparison fuse operate OrderAt
     binary_jumped BinaryOp.Add l r pl pr m own o h = tested_good E own o h
     binary_jumped BinaryOp.Subtract l r pl pr m own o h = tested_good E own o h
@@ -209,28 +208,28 @@ module _ (M : Operators) (t : Tree) (args : ℕ → M.Value) (arity : ℕ) (sens
 -- ---- the if
 
 module _ (M : Operators) (t : Tree) (args : ℕ → M.Value) (arity : ℕ) where
-  module _ (E : ℕ → Dest → Walk Operand) (W : ℕ → Evaluation M.Failure M.Value) (S : ℕ → ℕ) (A : ℕ → Type 0) (P : ℕ → Type 0)
-      (good : (i : ℕ) → P i → (dest : Dest) (m : Made) → Owns arity m → Target arity m dest → Holds (AsOperand M t args arity m dest (S i) (A i) (W i)) (E i dest m)) where
-    else_good : (el : ℕ) (b : Bool) → (Named el (cond b [] (el ∷ [])) → P el) → (i : ℕ) (d : Register) (m : Made) → Owns arity m → Target arity m (Dest.To d) →
-        Holds (LoweredInto M args arity m (Dest.To d) (total S (cond b [] (el ∷ []))) (Chosen M t args b (Unit {0}) (A el)) (cond b undefined (W el)))
-        (cond b (refuse t Refusal.Else i) (lower_materializing (E el) (Dest.To d)) m)
+  module _ (E : ℕ → Option Register → Walk Operand) (W : ℕ → Evaluation M.Failure M.Value) (S : ℕ → ℕ) (A : ℕ → Type 0) (P : ℕ → Type 0)
+      (good : (i : ℕ) → P i → (dest : Option Register) (m : Made) → Owns arity m → Target arity m dest → Holds (AsOperand M t args arity m dest (S i) (A i) (W i)) (E i dest m)) where
+    else_good : (el : ℕ) (b : Bool) → (Named el (cond b [] (el ∷ [])) → P el) → (i : ℕ) (d : Register) (m : Made) → Owns arity m → Target arity m (Some d) →
+        Holds (LoweredInto M args arity m (Some d) (total S (cond b [] (el ∷ []))) (Chosen M t args b (Unit {0}) (A el)) (cond b undefined (W el)))
+        (cond b (refuse t Refusal.Else i) (lower_materializing (E el) (Some d)) m)
     unfolding total
     else_good el true p i d m o g = void
-    else_good el false p i d m o g = weaken (good_M M t args arity E W S A P good el (p first) (Dest.To d) m o g) (λ r m' q. resized M args arity (omega arith) q)
+    else_good el false p i d m o g = weaken (good_M M t args arity E W S A P good el (p first) (Some d) m o g) (λ r m' q. resized M args arity (omega arith) q)
 
     knows : (b : Bool) (x y : Evaluation M.Failure M.Value) → Known x → Known y → Known (cond b x y)
     knows true x y h k = h
     knows false x y h k = k
 
     -- the code of an if, made step by step
-    if_lowered : {sc st se : ℕ} {Ac Cc At Ae : Type 0} {wc wt we : Evaluation M.Failure M.Value} {dest : Dest} {m m1 m2 m3 m4 m5 m6 m7 : Made} {d r1 r2 : Register} {j k : ℕ} →
+    if_lowered : {sc st se : ℕ} {Ac Cc At Ae : Type 0} {wc wt we : Evaluation M.Failure M.Value} {dest : Option Register} {m m1 m2 m3 m4 m5 m6 m7 : Made} {d r1 r2 : Register} {j k : ℕ} →
         Owns arity m → Room m4 → Room m6 →
         Jumped M args arity false m sc (Ac × Cc) wc j m1 →
         Aimed arity m1 dest d m2 →
-        LoweredInto M args arity m2 (Dest.To d) st At wt r1 m3 →
+        LoweredInto M args arity m2 (Some d) st At wt r1 m3 →
         InstructionPut (Instruction.Jump 0) m3 k m4 →
         OffsetPut j m4 m5 →
-        LoweredInto M args arity m5 (Dest.To d) se Ae we r2 m6 →
+        LoweredInto M args arity m5 (Some d) se Ae we r2 m6 →
         OffsetPut k m6 m7 →
         LoweredInto M args arity m dest (2 + (sc + (st + se))) (Ac × Cc × IfAny (λ b. Chosen M t args b At Ae) (tests M wc))
         (and_then wc (λ a. and_then (given (M.test a)) (λ b. cond b wt we))) d m7
@@ -278,7 +277,7 @@ module _ (M : Operators) (t : Tree) (args : ℕ → M.Value) (arity : ℕ) where
               (after_ask (after_bind wc _ k0) (ask_bind wc _ fa.2)
               (λ v kv fv. after_ask (after_bind (given (M.test v)) _ kv) fv
               (λ b kb fb R1 p1.
-              let pr1 : Params M args arity R1 = params_kept M args arity m Dest.Any o tt p1 pr in
+              let pr1 : Params M args arity R1 = params_kept M args arity m None o tt p1 pr in
               by_bool b
               (λ b. Onward M args arity w e' (w.base + count m7) m dest R (λ w R v. R (reg_of d) ≡ v) (cond b wt we) × Chosen M t args b At Ae)
               (λ b. Onto M arity w (w.base + j) (cond (beq b false) (w.base + j + (count m4 - j)) (w.base + suc j)) R1 e')
@@ -298,7 +297,7 @@ module _ (M : Operators) (t : Tree) (args : ℕ → M.Value) (arity : ℕ) where
         }
 
     pub good_if : (J : ℕ → Walk ℕ) (C : ℕ → Type 0) → ((i : ℕ) → P i → (m : Made) → Owns arity m → Holds (Jumped M args arity false m (S i) (A i × C i) (W i)) (J i m)) →
-        (c th el : ℕ) → P c → P th → (Named el (present el) → P el) → (i : ℕ) (dest : Dest) (m : Made) → Owns arity m → Target arity m dest →
+        (c th el : ℕ) → P c → P th → (Named el (present el) → P el) → (i : ℕ) (dest : Option Register) (m : Made) → Owns arity m → Target arity m dest →
         Holds (AsOperand M t args arity m dest (2 + (S c + (S th + total S (present el)))) (A c × C c × IfAny (λ b. Chosen M t args b (A th) (Chosen M t args (eqb el absent) (Unit {0}) (A el))) (tests M (W c)))
         (and_then (W c) (λ a. and_then (given (M.test a)) (λ b. cond b (W th) (cond (eqb el absent) undefined (W el))))))
         (lower_node free_temp t E J i (Node.If c th el) dest m)
@@ -308,7 +307,7 @@ module _ (M : Operators) (t : Tree) (args : ℕ → M.Value) (arity : ℕ) where
         let o1 : Owns arity m1 = grown_owns arity jm.grown o in
         chain (destination_good arity m1 dest o1 (target_later arity dest jm.grown tg)) (λ d m2 a.
         let o2 : Owns arity m2 = grown_owns arity a.grown o1 in
-        chain (good_M M t args arity E W S A P good th pt (Dest.To d) m2 o2 (a.high, a.now)) (λ r1 m3 qt.
+        chain (good_M M t args arity E W S A P good th pt (Some d) m2 o2 (a.high, a.now)) (λ r1 m3 qt.
         chain (emit_holds (Instruction.Jump 0) m3) (λ k m4 g.
         let n0 = jm.start in
         let n1 = jm.level in

@@ -1,5 +1,6 @@
 -- What the machine reads back: an instruction from its words, a jump from its words with another offset, a constant from its words; and what
 -- setting one word does to the records of a buffer. Assumes nothing.
+use Rattle.std.specs.Prelude.{Some}
 use Prim.Native.Nat.{ℕ, ◌+◌, ◌*◌, ◌/◌, ◌%◌, ◌≤◌, ◌<◌, min}
 use native.Mathlib.Omega.{arith}
 use native.Mathlib.Decide.{ℕ_discrete}
@@ -7,7 +8,6 @@ use mathlib.Core.Path.{◌≡◌, refl, sym, ap, ◌∙◌, subst}
 use mathlib.Core.Logic.{◌≢◌}
 use mathlib.Core.List.{List}
 use mathlib.Core.Bool.{Bool, true, false, cond, not}
-use mathlib.Core.Option.{some}
 use lib.Dec.{eqb, ltb, T}
 use lib.ListN.{length, get_or, set, drop, length-set, length-take, length-drop}
 use lib.Seq.{ext_get_or, get_or-set_same, get_or-set_other}
@@ -108,13 +108,13 @@ module _ (M : Operators) where
   boolean_back false = refl
 
   -- a constant's words are read back as it
-  pub constant_words_lem : (c : Operand) → Proper c → constant_of M (constant_words c) ≡ some (constant c)
+  pub constant_words_lem : (c : Operand) → Proper c → constant_of M (constant_words c) ≡ Some (constant c)
   unfolding constant_of constant_words constant Proper number_of
   constant_words_lem (Operand.Register r) h = absurd h
   constant_words_lem (Operand.Number x) h =
       let n : ℕ = to_bits binary64 x in
       let e : 4294967296 * (n / 4294967296) + n % 4294967296 ≡ n = omega arith in
-      ap (λ y. some (M.number y)) (ap (of_bits binary64) e ∙ of_bits-to_bits binary64 x h)
+      ap (λ y. Some (M.number y)) (ap (of_bits binary64) e ∙ of_bits-to_bits binary64 x h)
   constant_words_lem (Operand.String symbol) h = refl
-  constant_words_lem (Operand.Boolean b) h = ap (λ y. some (M.boolean y)) (boolean_back b)
+  constant_words_lem (Operand.Boolean b) h = ap (λ y. Some (M.boolean y)) (boolean_back b)
   constant_words_lem Operand.Nil h = refl

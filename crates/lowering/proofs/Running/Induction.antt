@@ -1,6 +1,8 @@
 -- The induction over the arena: every node keeps the promise, as an expression and as a condition, and so does the root with its Return or with
 -- its jump.
 -- Assumes nothing.
+use Rattle.std.specs.Prelude.{Option, None}
+use Rattle.environment.specs.declared.Register.{Register}
 use Prim.Native.Nat.{ℕ, zero, suc, ◌+◌, ◌≤◌, ◌<◌}
 use native.Mathlib.Omega.{arith}
 use native.Mathlib.Nat.{le_refl}
@@ -13,10 +15,9 @@ use Rattle.runtime.specs.declared.instruction.Instruction.{Instruction}
 use Rattle.runtime.specs.declared.operand.Operand.{Operand}
 use Rattle.runtime.specs.Operands.{reg_of}
 use Rattle.runtime.specs.Instruction.{words_of, decode}
-use Rattle.lowering.specs.declared.Dest.{Dest}
 use Rattle.lowering.specs.Tree.{Tree, node, children}
 use Rattle.lowering.specs.Checked.{Falls}
-use Rattle.lowering.specs.Walk.{Made, ends, Walk, bind, ◌>>=◌, ◌>>◌}
+use Rattle.lowering.specs.Walk.{Made, ends, Walk, bind}
 use Rattle.lowering.specs.Steps.{free_temp, patch_marks, patch_arguments}
 use Rattle.lowering.specs.Lower.{source, lower_materializing, lower_node, jump_node, expression_below, jump_below, lower_expression, lower_jump_if_false, lower_jump_if_true}
 use Rattle.lowering.specs.Result.{lower_root}
@@ -35,10 +36,10 @@ module _ (M : Operators) (t : Tree) (args : ℕ → M.Value) where
   arity = length t.names
 
   -- what is promised of a node by walks on its children that keep the promise, where those hold P
-  module _ (E : ℕ → Dest → Walk Operand) (J : ℕ → Walk ℕ) (W : Evaluations M) (S : ℕ → ℕ) (A C P : ℕ → Type 0)
-      (good : (i : ℕ) → P i → (dest : Dest) (m : Made) → Owns arity m → Target arity m dest → Holds (AsOperand M t args arity m dest (S i) (A i) (W i)) (E i dest m))
+  module _ (E : ℕ → Option Register → Walk Operand) (J : ℕ → Walk ℕ) (W : Evaluations M) (S : ℕ → ℕ) (A C P : ℕ → Type 0)
+      (good : (i : ℕ) → P i → (dest : Option Register) (m : Made) → Owns arity m → Target arity m dest → Holds (AsOperand M t args arity m dest (S i) (A i) (W i)) (E i dest m))
       (jumps : (i : ℕ) → P i → (m : Made) → Owns arity m → Holds (Jumped M args arity false m (S i) (A i × C i) (W i)) (J i m)) where
-    node_good : (n : Node) → Plain n → ((c : ℕ) → Named c (children t.list n) → P c) → (i : ℕ) (dest : Dest) (m : Made) → Owns arity m → Target arity m dest →
+    node_good : (n : Node) → Plain n → ((c : ℕ) → Named c (children t.list n) → P c) → (i : ℕ) (dest : Option Register) (m : Made) → Owns arity m → Target arity m dest →
         Holds (AsOperand M t args arity m dest (node_size n + total S (children t.list n)) (node_asks M t args W A C n) (node_value M t args W n)) (lower_node free_temp t E J i n dest m)
     unfolding lower_node node_size total children node_asks node_value Plain source Proper constant
     node_good (Node.Number low high) pl p i dest m o g = fine (literal refl (number_proper low high) (le_refl 1))
@@ -58,8 +59,8 @@ module _ (M : Operators) (t : Tree) (args : ℕ → M.Value) where
     node_good (Node.PropertyAccess x symbol) pl p i dest m o g = good_property M t args arity E W S A P good x symbol (p x first) J i dest m o g
     node_good (Node.Map start number) pl p i dest m o g = absurd pl
 
-    jump_good : (sense : Bool) (n : Node) → ((c : ℕ) → Named c (children t.list n) → P c) → (m : Made) (own : Dest → Walk Operand) → Owns arity m →
-        Holds (AsOperand M t args arity m Dest.Any (node_size n + total S (children t.list n)) (node_asks M t args W A C n) (node_value M t args W n)) (own Dest.Any m) →
+    jump_good : (sense : Bool) (n : Node) → ((c : ℕ) → Named c (children t.list n) → P c) → (m : Made) (own : Option Register → Walk Operand) → Owns arity m →
+        Holds (AsOperand M t args arity m None (node_size n + total S (children t.list n)) (node_asks M t args W A C n) (node_value M t args W n)) (own None m) →
         Holds (Jumped M args arity sense m (node_size n + total S (children t.list n)) (node_asks M t args W A C n × AtRoot sense (condition_asks M t args W n)) (node_value M t args W n))
         (jump_node t E sense own n m)
     unfolding jump_node node_size total children node_asks node_value condition_asks
@@ -89,7 +90,7 @@ module _ (M : Operators) (t : Tree) (args : ℕ → M.Value) where
   mutual
     unfolding expression_below jump_below size_below asks_below value_below condition_asks_below
 
-    expression_good : (f i : ℕ) → PlainFrom i → (dest : Dest) (m : Made) → Owns arity m → Target arity m dest →
+    expression_good : (f i : ℕ) → PlainFrom i → (dest : Option Register) (m : Made) → Owns arity m → Target arity m dest →
         Holds (AsOperand M t args arity m dest (size_below t f i) (asks_below M t args f i) (value_below M t args f i)) (expression_below free_temp t f i dest m)
     expression_good zero i p dest m o g = void
     expression_good (suc f) i p dest m o g =
@@ -106,10 +107,10 @@ module _ (M : Operators) (t : Tree) (args : ℕ → M.Value) where
         false (node t i) (λ c n. plain_child i c p n) m _ o
         (node_good (λ n d. expression_below free_temp t f n d) (λ n. jump_below free_temp t f n) (λ n. value_below M t args f n) (λ n. size_below t f n) (λ n. asks_below M t args f n)
         (λ n. condition_asks_below M t args f n) PlainFrom (λ n p d m o g. expression_good f n p d m o g) (λ n p m o. condition_good f n p m o)
-        (node t i) (p i here) (λ c n. plain_child i c p n) i Dest.Any m o tt)
+        (node t i) (p i here) (λ c n. plain_child i c p n) i None m o tt)
 
   -- at a node, with no bound
-  expression_at : (i : ℕ) → PlainFrom i → (dest : Dest) (m : Made) → Owns arity m → Target arity m dest →
+  expression_at : (i : ℕ) → PlainFrom i → (dest : Option Register) (m : Made) → Owns arity m → Target arity m dest →
       Holds (AsOperand M t args arity m dest (size_at t i) (OrderPremise M t args i) (value_at M t args i)) (lower_expression free_temp t i dest m)
   unfolding lower_expression size_at OrderPremise value_at
   expression_at i p dest m o g = expression_good (suc i) i p dest m o g
@@ -134,7 +135,7 @@ module _ (M : Operators) (t : Tree) (args : ℕ → M.Value) where
   pub root_good : (root : ℕ) → PlainFrom root → (m : Made) → Owns arity m → m.state.marks ≡ 0 → Holds (λ a m'. Rooted root m m') (lower_root free_temp t 0 root m)
   unfolding lower_root lower_materializing lower_expression size_at value_at OrderPremise action act bind
   root_good root p m o z =
-      chain (chain (expression_good (suc root) root p Dest.Any m o tt) (λ x m1 h. materialized_good M args arity {m = m} {dest = Dest.Any} o tt h)) (λ r m2 q.
+      chain (chain (expression_good (suc root) root p None m o tt) (λ x m1 h. materialized_good M args arity {m = m} {dest = None} o tt h)) (λ r m2 q.
       chain (emit_holds (Instruction.Return (reg_of r)) m2) (λ n m3 g.
       let l1 = q.short in
       let l2 = g.level in
@@ -179,13 +180,13 @@ module _ (M : Operators) (t : Tree) (args : ℕ → M.Value) where
     abbrev here_value : Evaluation M.Failure M.Value
     here_value = node_value M t args (value_at M t args) here_node
 
-    own_good : PlainFrom root → (m : Made) → Owns arity m → Holds (AsOperand M t args arity m Dest.Any here_size here_asks here_value) (lower_expression free_temp t root Dest.Any m)
+    own_good : PlainFrom root → (m : Made) → Owns arity m → Holds (AsOperand M t args arity m None here_size here_asks here_value) (lower_expression free_temp t root None m)
     unfolding lower_expression
     own_good p m o =
-        subst (λ s. Holds (AsOperand M t args arity m Dest.Any s here_asks here_value) (expression_below free_temp t (suc root) root Dest.Any m)) (size_at_lem t n falls root inside)
-        (subst (λ A. Holds (AsOperand M t args arity m Dest.Any (size_at t root) A here_value) (expression_below free_temp t (suc root) root Dest.Any m)) (order_at M t args n falls root inside)
-        (subst (λ w. Holds (AsOperand M t args arity m Dest.Any (size_at t root) (OrderPremise M t args root) w) (expression_below free_temp t (suc root) root Dest.Any m)) (value_at_lem M t args n falls root inside)
-        (expression_at root p Dest.Any m o tt)))
+        subst (λ s. Holds (AsOperand M t args arity m None s here_asks here_value) (expression_below free_temp t (suc root) root None m)) (size_at_lem t n falls root inside)
+        (subst (λ A. Holds (AsOperand M t args arity m None (size_at t root) A here_value) (expression_below free_temp t (suc root) root None m)) (order_at M t args n falls root inside)
+        (subst (λ w. Holds (AsOperand M t args arity m None (size_at t root) (OrderPremise M t args root) w) (expression_below free_temp t (suc root) root None m)) (value_at_lem M t args n falls root inside)
+        (expression_at root p None m o tt)))
 
     pub root_true : PlainFrom root → (m : Made) → Owns arity m → m.state.marks ≡ 0 → Holds (RootJumped true root m) (lower_root free_temp t 2 root m)
     unfolding lower_root lower_jump_if_true bind

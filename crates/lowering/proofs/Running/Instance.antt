@@ -1,12 +1,12 @@
 -- The law is not empty: numbers, strings, booleans and nil with IEEE 754 arithmetic keep its hypotheses, two numbers other than NaN its order
 -- premise, and the worked page runs under them; so do two values with no failure at all. With a NaN the premise fails, and the then-branch runs
 -- where the test is false. At its edges the machine ends with neither value nor failure. Assumes nothing.
+use Rattle.std.specs.Prelude.{Some, None}
 use Prim.Native.Nat.{ℕ, zero, suc, ◌<◌}
 use native.Mathlib.Omega.{arith}
 use mathlib.Core.Path.{◌≡◌, refl, sym, ap, ◌∙◌}
 use mathlib.Core.Bool.{Bool, true, false, cond, not, ◌&&◌, beq, false≢true}
 use mathlib.Core.List.{List, [], ◌∷◌}
-use mathlib.Core.Option.{none, some}
 use lib.Dec.{eqb}
 use lib.ListN.{replicate}
 use lib.Ieee.{Float, nan, binary64, lt, le, eq, is_nan, of_bits, to_bits, nan_bits}
@@ -28,7 +28,7 @@ use Rattle.lowering.specs.Questions.{whole, question1, question2, question3, que
 use Rattle.lowering.specs.Steps.{placed, registered, allocate_temp, free_temp, destination, emit, store, load_constant, put_offset, patch_to_next, mark, patch_argument, patch_marks, patch_arguments}
 use Rattle.lowering.specs.Tree.{node, present, entry_nodes, children}
 use Rattle.lowering.specs.Walk.{bind}
-use Rattle.lowering.specs.Result.{result, begin, lower_root, lowered_of, lower_checked, lower}
+use Rattle.lowering.specs.Result.{begin, lower_root, lowered_of, lower_checked, lower}
 use Rattle.lowering.specs.Meaning.{val, Operators, Hypotheses, Ordered, Evaluation, evaluates, IfAny, met, last_named, operate, node_value, value_below, value_at, OrderAt, condition_asks, node_asks, condition_asks_below, asks_below, OrderPremise, Chosen, Named, first, later, Reaches, here, below, Plain}
 use Rattle.lowering.specs.Machine.{record_in, fetch, constant_at, constant_of, target, action, returned, lost, Registers, Now, ended, fill, act, step_at, machine_step, after}
 use Rattle.lowering.specs.Law.{Start}
@@ -262,11 +262,11 @@ unfailing_ordered false false = refl
 -- ---- the machine at its edges
 
 -- an offset from 2^31 on goes back; a place below 0 is none
-pub back_one : target 5 4294967295 ≡ some 4
+pub back_one : target 5 4294967295 ≡ Some 4
 unfolding target
 back_one = refl
 
-pub below_zero : target 0 4294967295 ≡ none
+pub below_zero : target 0 4294967295 ≡ None
 unfolding target
 below_zero = refl
 

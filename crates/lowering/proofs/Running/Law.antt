@@ -1,5 +1,6 @@
 -- The running law: its sentences, each a theorem about `after`. A run is first a relation, built by the induction over the tree; here it is read
 -- off the machine's own steps. Assumes nothing.
+use Rattle.std.specs.Prelude.{Option, Some, None}
 use Prim.Native.Nat.{ℕ, zero, suc, ◌+◌, ◌-◌, ◌*◌, ◌≤◌, ◌<◌, min}
 use native.Mathlib.Omega.{arith}
 use native.Mathlib.Nat.{le_refl, zero-add, suc-add}
@@ -8,7 +9,6 @@ use mathlib.Core.Path.{◌≡◌, refl, sym, ap, ◌∙◌, subst}
 use mathlib.Core.Logic.{◌≢◌}
 use mathlib.Core.Bool.{true, false, false≢true}
 use mathlib.Core.List.{List}
-use mathlib.Core.Option.{Option, none, some}
 use lib.ListN.{length, length-take, length-drop}
 use borrow.Author.Tests.{lt-ltb}
 use Rattle.words.specs.Records.{capacity, record_at}
@@ -161,17 +161,17 @@ defined a M args = known_defined (value_at M a.tree args a.root) (rooted a M arg
 
 -- ---- whole records
 
-record_in_lem : (w : ℕ) (ws : List ℕ) (count p : ℕ) → p < count → p < capacity w ws → record_in w ws count p ≡ some (record_at w ws p)
+record_in_lem : (w : ℕ) (ws : List ℕ) (count p : ℕ) → p < count → p < capacity w ws → record_in w ws count p ≡ Some (record_at w ws p)
 unfolding record_in
 record_in_lem w ws count p h l = rw (lt-ltb p count h, lt-ltb p (capacity w ws) l)
 
 pub fetch_record : (ws : List ℕ) (count p : ℕ) → p < count → p < capacity instruction_width ws → fetch ws count p ≡ decode (record_at instruction_width ws p)
 unfolding fetch
-fetch_record ws count p h l = ap (λ (o : Option (List ℕ)). elim o [ some r ↦ decode r | none ↦ none ]) (record_in_lem instruction_width ws count p h l)
+fetch_record ws count p h l = ap (λ (o : Option (List ℕ)). elim o [ Some r ↦ decode r | None ↦ None ]) (record_in_lem instruction_width ws count p h l)
 
 pub constant_record : (M : Operators) (ws : List ℕ) (count p : ℕ) → p < count → p < capacity constant_width ws → constant_at M ws count p ≡ constant_of M (record_at constant_width ws p)
 unfolding constant_at
-constant_record M ws count p h l = ap (λ (o : Option (List ℕ)). elim o [ some r ↦ constant_of M r | none ↦ none ]) (record_in_lem constant_width ws count p h l)
+constant_record M ws count p h l = ap (λ (o : Option (List ℕ)). elim o [ Some r ↦ constant_of M r | None ↦ None ]) (record_in_lem constant_width ws count p h l)
 
 module _ (ws : List ℕ) (p : ℕ) where
   -- a record of full length is inside

@@ -1,10 +1,10 @@
 -- Runs of the machine, built from their end: each step stays below a limit, goes to a higher place, or leaves the run, and keeps the parameters
 -- as they were. And the tables of the operators' instructions and of the fused jumps. Assumes nothing.
+use Rattle.std.specs.Prelude.{Option, Some}
 use Prim.Native.Nat.{ℕ, suc, ◌+◌, ◌≤◌, ◌<◌}
 use native.Mathlib.Omega.{arith}
 use mathlib.Core.Path.{◌≡◌, refl, sym, ap, ◌∙◌, subst}
 use mathlib.Core.Bool.{Bool, true, false, cond, beq}
-use mathlib.Core.Option.{Option, some}
 use mathlib.Core.List.{List}
 use borrow.Author.Tests.{lt-ltb}
 use Rattle.syntax.specs.declared.ops.BinaryOp.{BinaryOp}
@@ -172,17 +172,17 @@ module _ (M : Operators) (arity : ℕ) (w : World M) where
   run_fill (val v) p to d R s l h q (worked k) = next l s (omega arith) (λ r b. miss r d v (R r) (λ z. omega arith)) (run_moved q k)
   run_fill (fail x) p to d R s l h q (broke f) = last l (s ∙ ap ended (sym f))
 
-  pub target_forward : (p k : ℕ) → k < 2147483648 → target p k ≡ some (p + k)
+  pub target_forward : (p k : ℕ) → k < 2147483648 → target p k ≡ Some (p + k)
   unfolding target
   target_forward p k h = rw (lt-ltb k 2147483648 h)
 
-  branch_goes : (t : Bool) (k p goal : ℕ) (R : Registers M) → target p k ≡ some goal → branch M w.consts t k p R ≡ Now.at (cond t goal (suc p)) R
+  branch_goes : (t : Bool) (k p goal : ℕ) (R : Registers M) → target p k ≡ Some goal → branch M w.consts t k p R ≡ Now.at (cond t goal (suc p)) R
   branch_goes true k p goal R h = rw h
   branch_goes false k p goal R h = refl
 
   -- an answer decides whether to jump
   pub run_goes : {A : Type 0} (r : Answer M.Failure A) (f : A → Bool) (k p goal no_at : ℕ) (R : Registers M) {e : Ending M} →
-      step_of (Now.at p R) ≡ onward M w.consts r (λ b. branch M w.consts (f b) k p R) → p < w.limit → target p k ≡ some goal → no_at ≡ suc p →
+      step_of (Now.at p R) ≡ onward M w.consts r (λ b. branch M w.consts (f b) k p R) → p < w.limit → target p k ≡ Some goal → no_at ≡ suc p →
       After (λ b. Onto p (cond (f b) goal no_at) R e) (λ x. e ≡ failed x) (given r) → Run p R e
   run_goes (val v) f k p goal n R {e} s l b c (worked g) =
       onto l (s ∙ branch_goes (f v) k p goal R b ∙ ap (λ x. Now.at (cond (f v) goal x) R) (sym c)) g
@@ -193,7 +193,7 @@ module _ (M : Operators) (arity : ℕ) (w : World M) where
       step_of (Now.at p R) ≡ onward M w.consts r (λ b. branch M w.consts (f b) k p R) → p < w.limit → 0 < k → k < 2147483648 →
       yes_at ≡ p + k → no_at ≡ suc p →
       After (λ b. Run (cond (f b) yes_at no_at) R e) (λ x. e ≡ failed x) (given r) → Run p R e
-  run_branch r f k p y n R s l h b a c g = run_goes r f k p y n R s l (target_forward p k b ∙ ap some (sym a)) c (after_map g (λ v x. up (later (f v)) x))
+  run_branch r f k p y n R s l h b a c g = run_goes r f k p y n R s l (target_forward p k b ∙ ap Some (sym a)) c (after_map g (λ v x. up (later (f v)) x))
     where
       later : (t : Bool) → p < cond t y n
       later true = omega arith
@@ -266,7 +266,7 @@ module _ (M : Operators) where
     two_RR BinaryOp.Less p d a b R = refl
     two_RR BinaryOp.LessEqual p d a b R = refl
 
-    pub two_RK : (op : BinaryOp) (p d a k : ℕ) (R : Registers M) {v : M.Value} → consts k ≡ some v → Fills M consts (binary_rk op d a k) p d R (operate M op (R a) v)
+    pub two_RK : (op : BinaryOp) (p d a k : ℕ) (R : Registers M) {v : M.Value} → consts k ≡ Some v → Fills M consts (binary_rk op d a k) p d R (operate M op (R a) v)
     unfolding act action binary_rk operate
     two_RK BinaryOp.Add p d a k R e = rw e
     two_RK BinaryOp.Subtract p d a k R e = rw e
@@ -280,7 +280,7 @@ module _ (M : Operators) where
     two_RK BinaryOp.Less p d a k R e = rw e
     two_RK BinaryOp.LessEqual p d a k R e = rw e
 
-    pub two_KR : (op : BinaryOp) (p d k b : ℕ) (R : Registers M) {v : M.Value} → consts k ≡ some v → Fills M consts (binary_kr op d k b) p d R (operate M op v (R b))
+    pub two_KR : (op : BinaryOp) (p d k b : ℕ) (R : Registers M) {v : M.Value} → consts k ≡ Some v → Fills M consts (binary_kr op d k b) p d R (operate M op v (R b))
     unfolding act action binary_kr operate
     two_KR BinaryOp.Add p d k b R e = rw (e, laws.add_order _ _)
     two_KR BinaryOp.Subtract p d k b R e = rw e
@@ -305,7 +305,7 @@ module _ (M : Operators) where
       jump_RR Comparison.Greater n p a b R o = ap (λ r. onward M consts r (λ t. branch M consts t n p R)) o.1
       jump_RR Comparison.GreaterEqual n p a b R o = ap (λ r. onward M consts r (λ t. branch M consts t n p R)) (turned _ _ o.0)
 
-      jump_RK : (c : Comparison) (n p a k : ℕ) (R : Registers M) {v : M.Value} → consts k ≡ some v → OrderOf c (R a) v →
+      jump_RK : (c : Comparison) (n p a k : ℕ) (R : Registers M) {v : M.Value} → consts k ≡ Some v → OrderOf c (R a) v →
           Branches M consts code (jump_rk false c a k) n p R (opposite (asked c (R a) v))
       unfolding step_at act action jump_rk decode words_of aim offset_word
       jump_RK Comparison.Equal n p a k R e o = rw e (ap (λ r. onward M consts r (λ t. branch M consts t n p R)) (laws.unequal_opposite _ _))
@@ -315,7 +315,7 @@ module _ (M : Operators) where
       jump_RK Comparison.Greater n p a k R e o = rw e (ap (λ r. onward M consts r (λ t. branch M consts t n p R)) o.1)
       jump_RK Comparison.GreaterEqual n p a k R e o = rw e (ap (λ r. onward M consts r (λ t. branch M consts t n p R)) (turned _ _ o.0))
 
-      jump_KR : (c : Comparison) (n p k b : ℕ) (R : Registers M) {v : M.Value} → consts k ≡ some v → OrderOf c v (R b) →
+      jump_KR : (c : Comparison) (n p k b : ℕ) (R : Registers M) {v : M.Value} → consts k ≡ Some v → OrderOf c v (R b) →
           Branches M consts code (jump_kr false c k b) n p R (opposite (asked c v (R b)))
       unfolding step_at act action jump_kr decode words_of aim offset_word
       jump_KR Comparison.Equal n p k b R e o = rw e (ap (λ r. onward M consts r (λ t. branch M consts t n p R)) (laws.unequal_opposite _ _ ∙ ap opposite (laws.equal_order _ _)))
@@ -337,7 +337,7 @@ module _ (M : Operators) where
       sense_RR true Comparison.Greater n p a b R o = refl
       sense_RR true Comparison.GreaterEqual n p a b R o = refl
 
-      pub sense_RK : (sense : Bool) (c : Comparison) (n p a k : ℕ) (R : Registers M) {v : M.Value} → consts k ≡ some v → AtRoot sense (OrderOf c (R a) v) →
+      pub sense_RK : (sense : Bool) (c : Comparison) (n p a k : ℕ) (R : Registers M) {v : M.Value} → consts k ≡ Some v → AtRoot sense (OrderOf c (R a) v) →
           Branches M consts code (jump_rk sense c a k) n p R (sensed sense (asked c (R a) v))
       unfolding step_at act action jump_rk decode words_of aim offset_word
       sense_RK false c n p a k R e o = jump_RK c n p a k R e o
@@ -348,7 +348,7 @@ module _ (M : Operators) where
       sense_RK true Comparison.Greater n p a k R e o = rw e
       sense_RK true Comparison.GreaterEqual n p a k R e o = rw e
 
-      pub sense_KR : (sense : Bool) (c : Comparison) (n p k b : ℕ) (R : Registers M) {v : M.Value} → consts k ≡ some v → AtRoot sense (OrderOf c v (R b)) →
+      pub sense_KR : (sense : Bool) (c : Comparison) (n p k b : ℕ) (R : Registers M) {v : M.Value} → consts k ≡ Some v → AtRoot sense (OrderOf c v (R b)) →
           Branches M consts code (jump_kr sense c k b) n p R (sensed sense (asked c v (R b)))
       unfolding step_at act action jump_kr decode words_of aim offset_word
       sense_KR false c n p k b R e o = jump_KR c n p k b R e o

@@ -1,4 +1,6 @@
 -- Each kind of node but the if keeps the promise, if its children do. Assumes nothing.
+use Rattle.std.specs.Prelude.{Option, Some, None, Result, Ok, Err}
+use Rattle.diagnostics.specs.declared.Refusal.{Refusal}
 use Prim.Native.Nat.{ℕ, zero, suc, ◌+◌, ◌-◌, ◌≤◌, ◌<◌}
 use native.Mathlib.Omega.{arith}
 use native.Mathlib.Nat.{le_refl}
@@ -6,12 +8,10 @@ use mathlib.Core.Path.{◌≡◌, refl, sym, ap, ◌∙◌, subst, subst₂}
 use mathlib.Core.Logic.{◌≢◌}
 use mathlib.Core.Bool.{Bool, true, false, cond, not, beq}
 use mathlib.Core.List.{List, [], ◌∷◌}
-use mathlib.Core.Option.{Option, none, some}
 use lib.Dec.{eqb}
 use lib.ListN.{length, get_or}
 use borrow.Author.Tests.{eqb-true, eq-eqb, ne_eqb}
 use Rattle.environment.specs.declared.Register.{Register}
-use Rattle.environment.specs.declared.Found.{Found}
 use Rattle.environment.specs.Registers.{held}
 use Rattle.environment.specs.Environment.{lookup}
 use Rattle.environment.specs.Laws.{Last}
@@ -25,13 +25,12 @@ use Rattle.runtime.specs.declared.operand.Operand.{Operand}
 use Rattle.runtime.specs.Operands.{reg_of}
 use Rattle.runtime.specs.Instruction.{words_of, decode, offset_word}
 use Rattle.runtime.specs.Value.{constant_words}
-use Rattle.lowering.specs.declared.Dest.{Dest}
 use Rattle.lowering.specs.Tree.{Tree, present}
-use Rattle.lowering.specs.Walk.{Made, ends, Walk, bind, ◌>>=◌, ◌>>◌}
+use Rattle.lowering.specs.Walk.{Made, ends, Walk, ◌>>◌}
 use Rattle.lowering.specs.Steps.{free_temp, emit, load_constant}
 use Rattle.lowering.specs.Operators.{binary_rr, binary_rk, binary_kr, unary, jump_if}
 use Rattle.lowering.specs.Lower.{Source, source, same_register, lower_materializing, moved, lower_name, binary_sources, lower_tail, lower_node}
-use Rattle.lowering.specs.Meaning.{Answer, val, Unary, invert, Binary, property, Operators, Hypotheses, Evaluation, evaluates, given, and_then, IfAny, operate, unary_of, tests, last_named, parameter, Chosen, Named, first, later, total}
+use Rattle.lowering.specs.Meaning.{Answer, val, invert, property, Operators, Hypotheses, Evaluation, evaluates, given, and_then, IfAny, operate, unary_of, tests, last_named, parameter, Chosen, Named, first, total}
 use Rattle.lowering.specs.Machine.{constant_of, Registers, action, act, fill, onward, branch, step_at}
 use Rattle.lowering.specs.Trace.{registers_of, Held}
 use Rattle.lowering.proofs.Running.Decode.{Proper, constant, constant_words_lem, aim}
@@ -82,7 +81,7 @@ module _ (M : Operators) (args : ℕ → M.Value) (arity : ℕ) where
   held_later (Source.register r) g h = g.held (reg_of r) h
   held_later (Source.constant c) g h = h
 
-  den_kept : (x : Source) (m : Made) (w : World M) {R R' : Registers M} (v : M.Value) → HeldSource m x → Keeps M args arity m Dest.Any R R' → Den x w R v → Den x w R' v
+  den_kept : (x : Source) (m : Made) (w : World M) {R R' : Registers M} (v : M.Value) → HeldSource m x → Keeps M args arity m None R R' → Den x w R v → Den x w R' v
   den_kept (Source.register r) m w v h k d = k (reg_of r) h tt ∙ d
   den_kept (Source.constant c) m w v h k d = d
 
@@ -93,13 +92,13 @@ module _ (M : Operators) (args : ℕ → M.Value) (arity : ℕ) where
     pub now : HeldSource m' x
     pub short : count m' ≤ count m + s
     pub known : Known ans
-    pub sim : Sim M args arity m m' Dest.Any fair ans (Den x)
+    pub sim : Sim M args arity m m' None fair ans (Den x)
 
   known_of : (ans : Evaluation M.Failure M.Value) {v : M.Value} → ans ≡ evaluates v → Known ans
   known_of ans e = rw e tt
 
   pub operand_ready : {m m' : Made} {s : ℕ} {fair : Type 0} {ans : Evaluation M.Failure M.Value} {x : Source} →
-      Expr M args arity m Dest.Any s fair ans x m' → OperandReady m s fair ans x m'
+      Expr M args arity m None s fair ans x m' → OperandReady m s fair ans x m'
   operand_ready (in_register l) = record { grown = l.grown; usable = l.spot; now = l.now; short = l.short; known = l.known; sim = l.sim }
   operand_ready {m} {ans = ans} (literal e pc h) = record {
     grown = grown_refl _ m;
@@ -121,7 +120,7 @@ module _ (M : Operators) (args : ℕ → M.Value) (arity : ℕ) where
     pub short : count m' ≤ count m + s
     pub known_left : Known r
     pub known_right : Known q
-    pub sim : Sim M args arity m m' Dest.Any fair (pair_of r q) (λ w R v. Den x w R v.0 × Den y w R v.1)
+    pub sim : Sim M args arity m m' None fair (pair_of r q) (λ w R v. Den x w R v.0 × Den y w R v.1)
 
   pub couple : {m m1 m2 : Made} {s t : ℕ} {A B : Type 0} {r q : Evaluation M.Failure M.Value} {x y : Source} → Owns arity m →
       OperandReady m s A r x m1 → OperandReady m1 t B q y m2 → Couple m (s + t) (A × IfAny (λ v. B) r) r q x y m2
@@ -144,14 +143,14 @@ module _ (M : Operators) (args : ℕ → M.Value) (arity : ℕ) where
             a.sim laws w (earlier (le_refl _) l2 (le_refl _) b.grown.kept f) R e pa fa.0
             (after_ask (after_bind r _ k) fa.1
             (λ u ku fb R1 d1 p1.
-            b.sim laws w (earlier l1 (le_refl _) (le_refl _) (code_kept_refl _ m2) f) R1 e (params_kept M args arity m Dest.Any o tt p1 pa) fb
+            b.sim laws w (earlier l1 (le_refl _) (le_refl _) (code_kept_refl _ m2) f) R1 e (params_kept M args arity m None o tt p1 pa) fb
             (after_map (after_bind q _ ku)
             (λ v kv R2 d2 p2. after_value refl kv R2 (den_kept x m1 w u a.now p2 d1, d2) (λ z h n. p2 z (a.grown.held z h) tt ∙ p1 z h tt)))));
       }
 
   -- what a fill keeps
-  pub keeps_fill : {m m0 : Made} {dest : Dest} {d : Register} {R R1 : Registers M} (v : M.Value) → Aimed arity m dest d m0 →
-      Keeps M args arity m0 Dest.Any R R1 → Keeps M args arity m dest R (fill M R1 (reg_of d) v)
+  pub keeps_fill : {m m0 : Made} {dest : Option Register} {d : Register} {R R1 : Registers M} (v : M.Value) → Aimed arity m dest d m0 →
+      Keeps M args arity m0 None R R1 → Keeps M args arity m dest R (fill M R1 (reg_of d) v)
   keeps_fill v a k q h n = miss q _ _ _ (a.fresh q h n) ∙ k q (a.grown.held q h) tt
 
   -- the final pool has m's constants
@@ -159,9 +158,9 @@ module _ (M : Operators) (args : ℕ → M.Value) (arity : ℕ) where
   Pools w m = (k : ℕ) (ws : List ℕ) → Has m k ws → w.consts k ≡ constant_of M ws
 
   -- one operand, then an instruction that fills the destination with what `op` answers of it, then registers given back
-  pub one_lowered : (op : M.Value → Answer M.Failure M.Value) (i : Instruction) {m m0 m2 m3 m4 m6 : Made} {dest : Dest} {d src : Register} {s n : ℕ}
+  pub one_lowered : (op : M.Value → Answer M.Failure M.Value) (i : Instruction) {m m0 m2 m3 m4 m6 : Made} {dest : Option Register} {d src : Register} {s n : ℕ}
       {fair : Type 0} {r : Evaluation M.Failure M.Value} →
-      Aimed arity m dest d m0 → LoweredInto M args arity m0 Dest.Any s fair r src m2 → Grown (count m2) m2 m3 → count m3 ≡ count m2 → InstructionPut i m3 n m4 →
+      Aimed arity m dest d m0 → LoweredInto M args arity m0 None s fair r src m2 → Grown (count m2) m2 m3 → count m3 ≡ count m2 → InstructionPut i m3 n m4 →
       ((w : World M) (p : ℕ) (R : Registers M) (a : M.Value) → Pools w m3 → R (reg_of src) ≡ a →
       Fills M w.consts i p (reg_of d) R (op a)) →
       RegisterGiven (count m0) m0 m4 src m6 →
@@ -195,7 +194,7 @@ module _ (M : Operators) (args : ℕ → M.Value) (arity : ℕ) where
       }
 
   -- the same of two operands
-  pub two_lowered : (op : M.Value → M.Value → Answer M.Failure M.Value) (i : Instruction) {m m0 m2 m3 m4 m6 : Made} {dest : Dest} {d : Register}
+  pub two_lowered : (op : M.Value → M.Value → Answer M.Failure M.Value) (i : Instruction) {m m0 m2 m3 m4 m6 : Made} {dest : Option Register} {d : Register}
       {x y : Source} {s n : ℕ} {fair : Type 0} {r q : Evaluation M.Failure M.Value} →
       Aimed arity m dest d m0 → Couple m0 s fair r q x y m2 → Grown (count m2) m2 m3 → count m3 ≡ count m2 → InstructionPut i m3 n m4 →
       ((laws : Hypotheses M) (w : World M) (p : ℕ) (R : Registers M) (a b : M.Value) → Pools w m3 → Den x w R a → Den y w R b →
@@ -230,15 +229,15 @@ module _ (M : Operators) (args : ℕ → M.Value) (arity : ℕ) where
       }
 
   -- a larger bound
-  pub resized : {m m' : Made} {dest : Dest} {s z : ℕ} {fair : Type 0} {ans : Evaluation M.Failure M.Value} {r : Register} → s ≤ z →
+  pub resized : {m m' : Made} {dest : Option Register} {s z : ℕ} {fair : Type 0} {ans : Evaluation M.Failure M.Value} {r : Register} → s ≤ z →
       LoweredInto M args arity m dest s fair ans r m' → LoweredInto M args arity m dest z fair ans r m'
   resized l q =
       let s = q.short in
       record { grown = q.grown; spot = q.spot; now = q.now; short = omega arith; known = q.known; sim = q.sim }
 
   -- lowered into the register that is aimed at
-  pub aimed_lowered : {m m0 m1 : Made} {dest : Dest} {s : ℕ} {fair : Type 0} {ans : Evaluation M.Failure M.Value} {d r : Register} →
-      Aimed arity m dest d m0 → LoweredInto M args arity m0 (Dest.To d) s fair ans r m1 → LoweredInto M args arity m dest s fair ans d m1
+  pub aimed_lowered : {m m0 m1 : Made} {dest : Option Register} {s : ℕ} {fair : Type 0} {ans : Evaluation M.Failure M.Value} {d r : Register} →
+      Aimed arity m dest d m0 → LoweredInto M args arity m0 (Some d) s fair ans r m1 → LoweredInto M args arity m dest s fair ans d m1
   aimed_lowered {m} {m0} {m1} {dest} {s} {fair} {ans} {d} {r} a q =
       let l0 = a.level in
       let ls = q.short in
@@ -272,7 +271,7 @@ module _ (M : Operators) (consts : ℕ → Option M.Value) where
   unfolding act action
   not_acts p d u R e = rw e
 
-  property_acts : (p d u k : ℕ) (R : Registers M) {v c : M.Value} → R u ≡ v → consts k ≡ some c →
+  property_acts : (p d u k : ℕ) (R : Registers M) {v c : M.Value} → R u ≡ v → consts k ≡ Some c →
       Fills M consts (Instruction.GetPropertyK d u k) p d R (M.binary property v c)
   unfolding act action
   property_acts p d u k R e h = rw (e, h)
@@ -297,13 +296,13 @@ sense_tests M consts code false r n p R = false_tests M consts code r n p R
 sense_tests M consts code true r n p R = true_tests M consts code r n p R
 
 -- no name is x
-none_of : (names : List ℕ) (x : ℕ) → ((j : ℕ) → j < length names → get_or names j 0 ≢ x) → last_named names x ≡ none
+none_of : (names : List ℕ) (x : ℕ) → ((j : ℕ) → j < length names → get_or names j 0 ≢ x) → last_named names x ≡ None
 unfolding last_named
 none_of [] x h = refl
 none_of (n ∷ ns) x h = rw (none_of ns x (λ j b. h (suc j) (omega arith)), ne_eqb n x (h 0 (omega arith)))
 
 -- the last name that is x is found
-last_of : (names : List ℕ) (x i : ℕ) → i < length names → get_or names i 0 ≡ x → ((j : ℕ) → i < j → j < length names → get_or names j 0 ≢ x) → last_named names x ≡ some i
+last_of : (names : List ℕ) (x i : ℕ) → i < length names → get_or names i 0 ≡ x → ((j : ℕ) → i < j → j < length names → get_or names j 0 ≢ x) → last_named names x ≡ Some i
 unfolding last_named
 last_of [] x i l e after = absurd (omega arith)
 last_of (n ∷ ns) x (suc i) l e after = rw (last_of ns x i (omega arith) e (λ j a b. after (suc j) (omega arith) (omega arith)))
@@ -320,19 +319,19 @@ differs (Register.Local a) n h = go (eqb a n) refl
 
 module _ (M : Operators) (t : Tree) (args : ℕ → M.Value) (arity : ℕ) where
   -- lowered as an operand
-  abbrev pub AsOperand : Made → Dest → ℕ → Type 0 → Evaluation M.Failure M.Value → Operand → Made → Type 0
+  abbrev pub AsOperand : Made → Option Register → ℕ → Type 0 → Evaluation M.Failure M.Value → Operand → Made → Type 0
   AsOperand m dest s fair ans o m' = Expr M args arity m dest s fair ans (source o) m'
 
-  pub as_operand : {m m' : Made} {dest : Dest} {s z : ℕ} {fair : Type 0} {ans : Evaluation M.Failure M.Value} {r : Register} → s ≤ z →
+  pub as_operand : {m m' : Made} {dest : Option Register} {s z : ℕ} {fair : Type 0} {ans : Evaluation M.Failure M.Value} {r : Register} → s ≤ z →
       LoweredInto M args arity m dest s fair ans r m' → AsOperand m dest z fair ans (Operand.Register r) m'
   unfolding source
   as_operand l q = in_register (resized M args arity l q)
 
   -- a parameter's register, or a Move
-  moved_good : (n : ℕ) → n < arity → (dest : Dest) (m : Made) → Owns arity m → Target arity m dest →
+  moved_good : (n : ℕ) → n < arity → (dest : Option Register) (m : Made) → Owns arity m → Target arity m dest →
       Holds (AsOperand m dest 1 (Unit {0}) (evaluates (args n))) (moved t (Register.Local n) dest m)
   unfolding moved reg_of action act
-  moved_good n h Dest.Any m o g = fine (as_operand {m = m} (le_refl 1) (record {
+  moved_good n h None m o g = fine (as_operand {m = m} (le_refl 1) (record {
     grown = grown_refl _ m;
     spot = h;
     now = o.params n h;
@@ -340,7 +339,7 @@ module _ (M : Operators) (t : Tree) (args : ℕ → M.Value) (arity : ℕ) where
     known = tt;
     sim = λ laws w f R e pr fa k. after_value refl k R (pr n h) (λ z x y. refl);
   }))
-  moved_good n h (Dest.To d) m o g =
+  moved_good n h (Some d) m o g =
       rw (differs d n (omega (arith, g.0)))
       (chain (emit_holds (Instruction.Move (reg_of d) n) m) (λ k m1 x.
       let l = x.level in
@@ -359,27 +358,27 @@ module _ (M : Operators) (t : Tree) (args : ℕ → M.Value) (arity : ℕ) where
             (worked (after_value refl c _ (hit (reg_of d) _ _ ∙ pr n h) (λ z y q. miss z (reg_of d) _ _ q)));
       }))))
 
-  pub named_good : arity ≡ length t.names → (i symbol : ℕ) (f : Found) → lookup t.names (length t.names) symbol ≡ f → (dest : Dest) (m : Made) →
+  pub named_good : arity ≡ length t.names → (i symbol : ℕ) (f : Result Register Refusal) → lookup t.names (length t.names) symbol ≡ f → (dest : Option Register) (m : Made) →
       Owns arity m → Target arity m dest → Holds (AsOperand m dest 1 (Unit {0}) (parameter M t args (last_named t.names symbol))) (lower_name t i f dest m)
   unfolding lower_name
-  named_good ar i symbol (Found.Refused refusal) e dest m o g = void
-  named_good ar i symbol (Found.At r) e dest m o g =
+  named_good ar i symbol (Err refusal) e dest m o g = void
+  named_good ar i symbol (Ok r) e dest m o g =
       let k : Last t.names (length t.names) symbol r = lookup_found t.names (length t.names) symbol r e in
       rw (last_of t.names symbol k.index k.in_range k.named k.later)
       (subst (λ x. Holds (AsOperand m dest 1 (Unit {0}) (evaluates (args k.index))) (moved t x dest m)) (sym k.local)
       (moved_good k.index (omega (arith, k.in_range)) dest m o g))
 
   -- the walks on the children, and what is promised of them
-  module _ (E : ℕ → Dest → Walk Operand) (W : ℕ → Evaluation M.Failure M.Value) (S : ℕ → ℕ) (A : ℕ → Type 0) (P : ℕ → Type 0)
-      (good : (i : ℕ) → P i → (dest : Dest) (m : Made) → Owns arity m → Target arity m dest → Holds (AsOperand m dest (S i) (A i) (W i)) (E i dest m)) where
-    pub good_M : (i : ℕ) → P i → (dest : Dest) (m : Made) → Owns arity m → Target arity m dest →
+  module _ (E : ℕ → Option Register → Walk Operand) (W : ℕ → Evaluation M.Failure M.Value) (S : ℕ → ℕ) (A : ℕ → Type 0) (P : ℕ → Type 0)
+      (good : (i : ℕ) → P i → (dest : Option Register) (m : Made) → Owns arity m → Target arity m dest → Holds (AsOperand m dest (S i) (A i) (W i)) (E i dest m)) where
+    pub good_M : (i : ℕ) → P i → (dest : Option Register) (m : Made) → Owns arity m → Target arity m dest →
         Holds (LoweredInto M args arity m dest (S i) (A i) (W i)) (lower_materializing (E i) dest m)
     unfolding lower_materializing
     good_M i p dest m o g = chain (good i p dest m o g) (λ x m' h. materialized_good M args arity o g h)
 
     -- ---- binary
 
-    abbrev Two : BinaryOp → ℕ → ℕ → Made → Dest → Operand → Made → Type 0
+    abbrev Two : BinaryOp → ℕ → ℕ → Made → Option Register → Operand → Made → Type 0
     Two op l r m dest =
         AsOperand m dest (1 + (S l + (S r + 0))) (A l × IfAny (λ a. A r) (W l)) (and_then (W l) (λ a. and_then (W r) (λ b. given (operate M op a b))))
 
@@ -387,7 +386,7 @@ module _ (M : Operators) (t : Tree) (args : ℕ → M.Value) (arity : ℕ) where
     Both l r m x y m' = Couple M args arity m (S l + S r) (A l × IfAny (λ a. A r) (W l)) (W l) (W r) x y m'
 
     -- two registers
-    two_registers : (op : BinaryOp) (l r : ℕ) {m m0 m2 : Made} {dest : Dest} {d u v : Register} → Owns arity m0 → Aimed arity m dest d m0 →
+    two_registers : (op : BinaryOp) (l r : ℕ) {m m0 m2 : Made} {dest : Option Register} {d u v : Register} → Owns arity m0 → Aimed arity m dest d m0 →
         Both l r m0 (Source.register u) (Source.register v) m2 →
         Holds (Two op l r m dest)
         ((do
@@ -411,8 +410,8 @@ module _ (M : Operators) (t : Tree) (args : ℕ → M.Value) (arity : ℕ) where
         (two_RR M laws w.consts op p (reg_of d) (reg_of u) (reg_of v) R))
         (omega arith) (code_kept_trans (omega arith) h1.kept h2.kept) h2.grown)))))
 
-    two_sources : (op : BinaryOp) (l r : ℕ) → P l → P r → {m m0 m1 m2 : Made} {dest : Dest} {d : Register} (x y : Source) → Owns arity m0 →
-        Aimed arity m dest d m0 → Expr M args arity m0 Dest.Any (S l) (A l) (W l) x m1 → Expr M args arity m1 Dest.Any (S r) (A r) (W r) y m2 →
+    two_sources : (op : BinaryOp) (l r : ℕ) → P l → P r → {m m0 m1 m2 : Made} {dest : Option Register} {d : Register} (x y : Source) → Owns arity m0 →
+        Aimed arity m dest d m0 → Expr M args arity m0 None (S l) (A l) (W l) x m1 → Expr M args arity m1 None (S r) (A r) (W r) y m2 →
         Holds (Two op l r m dest) (binary_sources free_temp t E op l r d x y m2)
     unfolding binary_sources
     two_sources op l r pl pr {dest = dest} {d = d} (Source.register u) (Source.register v) o a ex ey =
@@ -448,29 +447,29 @@ module _ (M : Operators) (t : Tree) (args : ℕ → M.Value) (arity : ℕ) where
         (two_KR M laws w.consts op p (reg_of d) k (reg_of v) R (pools k (constant_words b) pb.has ∙ constant_words_lem M b c.usable_left)))
         l6 h.kept h.grown)))))
     two_sources op l r pl pr {m} {m0} {m1} {m2} {dest} {d} (Source.constant b) (Source.constant b') o a (literal e pc h) (literal e' pc' h') =
-        chain (good_M l pl Dest.Any m0 o tt) (λ u m3 lu.
-        chain (good_M r pr Dest.Any m3 (grown_owns arity lu.grown o) tt) (λ v m4 lv.
+        chain (good_M l pl None m0 o tt) (λ u m3 lu.
+        chain (good_M r pr None m3 (grown_owns arity lu.grown o) tt) (λ v m4 lv.
         two_registers op l r o a (couple M args arity o (operand_ready M args arity (in_register lu)) (operand_ready M args arity (in_register lv)))))
 
-    pub good_binary : (op : BinaryOp) (l r : ℕ) → P l → P r → (J : ℕ → Walk ℕ) (i : ℕ) (dest : Dest) (m : Made) → Owns arity m → Target arity m dest →
+    pub good_binary : (op : BinaryOp) (l r : ℕ) → P l → P r → (J : ℕ → Walk ℕ) (i : ℕ) (dest : Option Register) (m : Made) → Owns arity m → Target arity m dest →
         Holds (Two op l r m dest) (lower_node free_temp t E J i (Node.Binary op l r) dest m)
     unfolding lower_node
     good_binary op l r pl pr J i dest m o g =
         chain (destination_good arity m dest o g) (λ d m0 a.
         let o0 : Owns arity m0 = grown_owns arity a.grown o in
-        chain (good l pl Dest.Any m0 o0 tt) (λ u m1 x.
-        chain (good r pr Dest.Any m1 (grown_owns arity (operand_ready M args arity x).grown o0) tt) (λ v m2 y.
+        chain (good l pl None m0 o0 tt) (λ u m1 x.
+        chain (good r pr None m1 (grown_owns arity (operand_ready M args arity x).grown o0) tt) (λ v m2 y.
         two_sources op l r pl pr (source u) (source v) o0 a x y)))
 
     -- ---- unary, not, property
 
-    pub good_unary : (op : UnaryOp) (x : ℕ) → P x → (J : ℕ → Walk ℕ) (i : ℕ) (dest : Dest) (m : Made) → Owns arity m → Target arity m dest →
+    pub good_unary : (op : UnaryOp) (x : ℕ) → P x → (J : ℕ → Walk ℕ) (i : ℕ) (dest : Option Register) (m : Made) → Owns arity m → Target arity m dest →
         Holds (AsOperand m dest (1 + (S x + 0)) (A x) (and_then (W x) (λ a. given (M.unary (unary_of M op) a)))) (lower_node free_temp t E J i (Node.Unary op x) dest m)
     unfolding lower_node
     good_unary op x px J i dest m o g =
         chain (destination_good arity m dest o g) (λ d m0 a.
         let o0 : Owns arity m0 = grown_owns arity a.grown o in
-        chain (good_M x px Dest.Any m0 o0 tt) (λ u m2 q.
+        chain (good_M x px None m0 o0 tt) (λ u m2 q.
         chain (emit_holds (unary op (reg_of d) (reg_of u)) m2) (λ n m4 y.
         let l2 = q.grown.kept.more in
         let l4 = y.level in
@@ -479,13 +478,13 @@ module _ (M : Operators) (t : Tree) (args : ℕ → M.Value) (arity : ℕ) where
         fine (as_operand (omega arith) (one_lowered M args arity (λ v. M.unary (unary_of M op) v) (unary op (reg_of d) (reg_of u)) a q (grown_refl _ m2) refl y
         (λ w p R v pools e. unary_acts M w.consts op p (reg_of d) (reg_of u) R e) h))))))
 
-    pub good_not : (x : ℕ) → P x → (J : ℕ → Walk ℕ) (i : ℕ) (dest : Dest) (m : Made) → Owns arity m → Target arity m dest →
+    pub good_not : (x : ℕ) → P x → (J : ℕ → Walk ℕ) (i : ℕ) (dest : Option Register) (m : Made) → Owns arity m → Target arity m dest →
         Holds (AsOperand m dest (1 + (S x + 0)) (A x) (and_then (W x) (λ a. given (M.unary invert a)))) (lower_node free_temp t E J i (Node.LogicalNot x) dest m)
     unfolding lower_node
     good_not x px J i dest m o g =
         chain (destination_good arity m dest o g) (λ d m0 a.
         let o0 : Owns arity m0 = grown_owns arity a.grown o in
-        chain (good_M x px Dest.Any m0 o0 tt) (λ u m2 q.
+        chain (good_M x px None m0 o0 tt) (λ u m2 q.
         chain (emit_holds (Instruction.Not (reg_of d) (reg_of u)) m2) (λ n m4 y.
         let l2 = q.grown.kept.more in
         let l4 = y.level in
@@ -494,14 +493,14 @@ module _ (M : Operators) (t : Tree) (args : ℕ → M.Value) (arity : ℕ) where
         fine (as_operand (omega arith) (one_lowered M args arity (λ v. M.unary invert v) (Instruction.Not (reg_of d) (reg_of u)) a q (grown_refl _ m2) refl y
         (λ w p R v pools e. not_acts M w.consts p (reg_of d) (reg_of u) R e) h))))))
 
-    pub good_property : (x symbol : ℕ) → P x → (J : ℕ → Walk ℕ) (i : ℕ) (dest : Dest) (m : Made) → Owns arity m → Target arity m dest →
+    pub good_property : (x symbol : ℕ) → P x → (J : ℕ → Walk ℕ) (i : ℕ) (dest : Option Register) (m : Made) → Owns arity m → Target arity m dest →
         Holds (AsOperand m dest (1 + (S x + 0)) (A x) (and_then (W x) (λ a. given (M.binary property a (M.string symbol)))))
         (lower_node free_temp t E J i (Node.PropertyAccess x symbol) dest m)
     unfolding lower_node Proper constant
     good_property x symbol px J i dest m o g =
         chain (destination_good arity m dest o g) (λ d m0 a.
         let o0 : Owns arity m0 = grown_owns arity a.grown o in
-        chain (good_M x px Dest.Any m0 o0 tt) (λ u m2 q.
+        chain (good_M x px None m0 o0 tt) (λ u m2 q.
         chain (pool_holds (Operand.String symbol) m2) (λ k m3 pb.
         chain (emit_holds (Instruction.GetPropertyK (reg_of d) (reg_of u) k) m3) (λ n m4 y.
         let l2 = q.grown.kept.more in
@@ -522,11 +521,11 @@ module _ (M : Operators) (t : Tree) (args : ℕ → M.Value) (arity : ℕ) where
         (l r : ℕ) (T : M.Value → Bool → Evaluation M.Failure M.Value) (X : Bool → Type 0) →
         ((a : M.Value) → T a sense ≡ evaluates a) → ((a : M.Value) → T a (not sense) ≡ W r) → ((a : M.Value) (b : Bool) → Known (W r) → Known (T a b)) →
         (X (not sense) → A r) →
-        {dest : Dest} {m m0 m1 m2 m3 m4 : Made} {d s r' : Register} {j : ℕ} → Owns arity m → Room m3 →
+        {dest : Option Register} {m m0 m1 m2 m3 m4 : Made} {d s r' : Register} {j : ℕ} → Owns arity m → Room m3 →
         Aimed arity m dest d m0 →
-        LoweredInto M args arity m0 (Dest.To d) (S l) (A l) (W l) s m1 →
+        LoweredInto M args arity m0 (Some d) (S l) (A l) (W l) s m1 →
         InstructionPut (jmp (reg_of s)) m1 j m2 →
-        LoweredInto M args arity m2 (Dest.To d) (S r) (A r) (W r) r' m3 →
+        LoweredInto M args arity m2 (Some d) (S r) (A r) (W r) r' m3 →
         OffsetPut j m3 m4 →
         LoweredInto M args arity m dest (1 + (S l + (S r + 0))) (A l × IfAny X (tests M (W l))) (and_then (W l) (λ a. and_then (given (M.test a)) (T a))) d m4
     good_short sense jmp acts l r T X stay on knows fair {dest} {m} {m0} {m1} {m2} {m3} {m4} {d} {s} {r'} {j} o room a q1 g q2 h =
@@ -566,25 +565,25 @@ module _ (M : Operators) (t : Tree) (args : ℕ → M.Value) (arity : ℕ) where
               (λ b kb fb. by_sense sense b (λ n. Run M arity w n R1 e)
               (λ b. Onward M args arity w e (w.base + count m4) m dest R (λ w R v. R (reg_of d) ≡ v) (T v b) × X b)
               (λ z. after_value (stay v) z.0 R1 (ap (λ x. R1 (reg_of x)) (sym q1.spot) ∙ d1) (λ q x n. p1 q (a.grown.held q x) (a.fresh q x n)))
-              (λ z. q2.sim laws w f3 R1 e (params_kept M args arity m0 (Dest.To d) (grown_owns arity a.grown o) (a.high, a.now) p1 pr) (fair z.1)
+              (λ z. q2.sim laws w f3 R1 e (params_kept M args arity m0 (Some d) (grown_owns arity a.grown o) (a.high, a.now) p1 pr) (fair z.1)
               (after_map (rw (on v) at z.0)
               (λ u ku R2 d2 p2. moved-run M arity w (omega arith) (ku R2 (ap (λ x. R2 (reg_of x)) (sym q2.spot) ∙ d2)
               (λ q x n. p2 q (g.grown.held q (q1.grown.held q (a.grown.held q x))) (a.fresh q x n) ∙ p1 q (a.grown.held q x) (a.fresh q x n))))))
               (kb, fb)))))));
         }
 
-    pub good_and : (l r : ℕ) → P l → P r → (J : ℕ → Walk ℕ) (i : ℕ) (dest : Dest) (m : Made) → Owns arity m → Target arity m dest →
+    pub good_and : (l r : ℕ) → P l → P r → (J : ℕ → Walk ℕ) (i : ℕ) (dest : Option Register) (m : Made) → Owns arity m → Target arity m dest →
         Holds (AsOperand m dest (1 + (S l + (S r + 0))) (A l × IfAny (λ b. Chosen M t args b (A r) (Unit {0})) (tests M (W l)))
         (and_then (W l) (λ a. and_then (given (M.test a)) (λ b. cond b (W r) (evaluates a))))) (lower_node free_temp t E J i (Node.LogicalAnd l r) dest m)
     unfolding lower_node
     good_and l r pl pr J i dest m o x =
         chain (destination_good arity m dest o x) (λ d m0 a.
         let o0 : Owns arity m0 = grown_owns arity a.grown o in
-        chain (good_M l pl (Dest.To d) m0 o0 (a.high, a.now)) (λ s m1 q1.
+        chain (good_M l pl (Some d) m0 o0 (a.high, a.now)) (λ s m1 q1.
         chain (emit_holds (Instruction.JumpIfFalse (reg_of s) 0) m1) (λ j m2 g.
         let g02 : Grown (count m0) m0 m2 = grown_trans q1.grown.kept.more q1.grown g.grown in
         let o2 : Owns arity m2 = grown_owns arity g02 o0 in
-        chain (good_M r pr (Dest.To d) m2 o2 (a.high, g02.held (reg_of d) a.now)) (λ r' m3 q2.
+        chain (good_M r pr (Some d) m2 o2 (a.high, g02.held (reg_of d) a.now)) (λ r' m3 q2.
         let o3 : Owns arity m3 = grown_owns arity q2.grown o2 in
         chain (patch_holds j m3 o3.room (let l1 = g.which in let l2 = g.level in let l3 = q2.grown.kept.more in omega arith)) (λ _ m4 h.
         fine (as_operand {m = m} (le_refl _) (good_short false (λ n. Instruction.JumpIfFalse n 0) (λ w r n p R. false_tests M w.consts w.code r n p R) l r
@@ -594,18 +593,18 @@ module _ (M : Operators) (t : Tree) (args : ℕ → M.Value) (arity : ℕ) where
         knows a true k = k
         knows a false k = tt
 
-    pub good_or : (l r : ℕ) → P l → P r → (J : ℕ → Walk ℕ) (i : ℕ) (dest : Dest) (m : Made) → Owns arity m → Target arity m dest →
+    pub good_or : (l r : ℕ) → P l → P r → (J : ℕ → Walk ℕ) (i : ℕ) (dest : Option Register) (m : Made) → Owns arity m → Target arity m dest →
         Holds (AsOperand m dest (1 + (S l + (S r + 0))) (A l × IfAny (λ b. Chosen M t args b (Unit {0}) (A r)) (tests M (W l)))
         (and_then (W l) (λ a. and_then (given (M.test a)) (λ b. cond b (evaluates a) (W r))))) (lower_node free_temp t E J i (Node.LogicalOr l r) dest m)
     unfolding lower_node
     good_or l r pl pr J i dest m o x =
         chain (destination_good arity m dest o x) (λ d m0 a.
         let o0 : Owns arity m0 = grown_owns arity a.grown o in
-        chain (good_M l pl (Dest.To d) m0 o0 (a.high, a.now)) (λ s m1 q1.
+        chain (good_M l pl (Some d) m0 o0 (a.high, a.now)) (λ s m1 q1.
         chain (emit_holds (Instruction.JumpIfTrue (reg_of s) 0) m1) (λ j m2 g.
         let g02 : Grown (count m0) m0 m2 = grown_trans q1.grown.kept.more q1.grown g.grown in
         let o2 : Owns arity m2 = grown_owns arity g02 o0 in
-        chain (good_M r pr (Dest.To d) m2 o2 (a.high, g02.held (reg_of d) a.now)) (λ r' m3 q2.
+        chain (good_M r pr (Some d) m2 o2 (a.high, g02.held (reg_of d) a.now)) (λ r' m3 q2.
         let o3 : Owns arity m3 = grown_owns arity q2.grown o2 in
         chain (patch_holds j m3 o3.room (let l1 = g.which in let l2 = g.level in let l3 = q2.grown.kept.more in omega arith)) (λ _ m4 h.
         fine (as_operand {m = m} (le_refl _) (good_short true (λ n. Instruction.JumpIfTrue n 0) (λ w r n p R. true_tests M w.consts w.code r n p R) l r
@@ -617,14 +616,14 @@ module _ (M : Operators) (t : Tree) (args : ℕ → M.Value) (arity : ℕ) where
 
     -- ---- block: the tail or nil
 
-    tail_good : (tail : ℕ) (b : Bool) → (Named tail (cond b [] (tail ∷ [])) → P tail) → (d : Register) (m : Made) → Owns arity m → Target arity m (Dest.To d) →
-        Holds (LoweredInto M args arity m (Dest.To d) (1 + total S (cond b [] (tail ∷ []))) (Chosen M t args b (Unit {0}) (A tail)) (cond b (evaluates M.nil) (W tail)))
-        (cond b (load_constant Operand.Nil (Dest.To d)) (lower_materializing (E tail) (Dest.To d)) m)
+    tail_good : (tail : ℕ) (b : Bool) → (Named tail (cond b [] (tail ∷ [])) → P tail) → (d : Register) (m : Made) → Owns arity m → Target arity m (Some d) →
+        Holds (LoweredInto M args arity m (Some d) (1 + total S (cond b [] (tail ∷ []))) (Chosen M t args b (Unit {0}) (A tail)) (cond b (evaluates M.nil) (W tail)))
+        (cond b (load_constant Operand.Nil (Some d)) (lower_materializing (E tail) (Some d)) m)
     unfolding total Proper constant
-    tail_good tail true p d m o g = load_good M args arity Operand.Nil m (Dest.To d) o g refl tt (le_refl 1)
-    tail_good tail false p d m o g = weaken (good_M tail (p first) (Dest.To d) m o g) (λ r m' q. resized M args arity (omega arith) q)
+    tail_good tail true p d m o g = load_good M args arity Operand.Nil m (Some d) o g refl tt (le_refl 1)
+    tail_good tail false p d m o g = weaken (good_M tail (p first) (Some d) m o g) (λ r m' q. resized M args arity (omega arith) q)
 
-    pub good_block : (tail : ℕ) → (Named tail (present tail) → P tail) → (J : ℕ → Walk ℕ) (i : ℕ) (dest : Dest) (m : Made) → Owns arity m → Target arity m dest →
+    pub good_block : (tail : ℕ) → (Named tail (present tail) → P tail) → (J : ℕ → Walk ℕ) (i : ℕ) (dest : Option Register) (m : Made) → Owns arity m → Target arity m dest →
         Holds (AsOperand m dest (1 + total S (present tail)) (Chosen M t args (eqb tail absent) (Unit {0}) (A tail)) (cond (eqb tail absent) (evaluates M.nil) (W tail)))
         (lower_node free_temp t E J i (Node.Block tail) dest m)
     unfolding lower_node lower_tail present

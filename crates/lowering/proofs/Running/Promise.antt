@@ -1,6 +1,7 @@
 -- What a lowering promises of its code: the invariant of the induction. The code from m to m' is a run that works the answer out, in any final
 -- code and pool that agree with what was made: it goes on at its end where the answer is a value, which then stands in the result's register, and
 -- ends with the failure otherwise; registers that m held are left alone, but for the destination. Assumes nothing.
+use Rattle.std.specs.Prelude.{Option, Some, None}
 use Prim.Native.Nat.{ℕ, ◌+◌, ◌≤◌, ◌<◌}
 use native.Mathlib.Omega.{arith}
 use native.Mathlib.Decide.{dec_le}
@@ -8,7 +9,6 @@ use native.Mathlib.Nat.{lt_of_lt_of_le, le_refl, le_trans}
 use mathlib.Core.Path.{◌≡◌, refl, sym, ap, ◌∙◌, subst}
 use mathlib.Core.Logic.{◌≢◌}
 use mathlib.Core.List.{List}
-use mathlib.Core.Option.{some}
 use Rattle.environment.specs.declared.Register.{Register}
 use Rattle.environment.specs.Laws.{Sound}
 use Rattle.runtime.specs.declared.instruction.Instruction.{Instruction}
@@ -16,7 +16,6 @@ use Rattle.runtime.specs.declared.operand.Operand.{Operand}
 use Rattle.runtime.specs.Operands.{reg_of}
 use Rattle.runtime.specs.Instruction.{words_of, decode}
 use Rattle.runtime.specs.Value.{constant_words}
-use Rattle.lowering.specs.declared.Dest.{Dest}
 use Rattle.lowering.specs.Walk.{Made}
 use Rattle.lowering.specs.Steps.{destination, load_constant}
 use Rattle.lowering.specs.Lower.{Source, materialized}
@@ -51,19 +50,19 @@ past_patch l h q g f = record {
 }
 
 -- a register that is not the destination
-abbrev pub Apart : Dest → ℕ → Type 0
-Apart Dest.Any q = Unit {0}
-Apart (Dest.To d) q = q ≢ reg_of d
+abbrev pub Apart : Option Register → ℕ → Type 0
+Apart None q = Unit {0}
+Apart (Some d) q = q ≢ reg_of d
 
 module _ (arity : ℕ) where
   -- where a result may stand: in a parameter's register or one that was free; in the destination, if one was given
-  abbrev pub Spot : Dest → Made → Register → Type 0
-  Spot Dest.Any m r = Loose arity m r
-  Spot (Dest.To d) m r = r ≡ d
+  abbrev pub Spot : Option Register → Made → Register → Type 0
+  Spot None m r = Loose arity m r
+  Spot (Some d) m r = r ≡ d
 
-  abbrev pub Target : Made → Dest → Type 0
-  Target m Dest.Any = Unit {0}
-  Target m (Dest.To d) = (arity ≤ reg_of d) × Held m (reg_of d)
+  abbrev pub Target : Made → Option Register → Type 0
+  Target m None = Unit {0}
+  Target m (Some d) = (arity ≤ reg_of d) × Held m (reg_of d)
 
   -- the parameters' registers are held, and what was made is sound
   pub record Owns (m : Made) : Type 0 where
@@ -85,7 +84,7 @@ module _ (arity : ℕ) where
   loose_temporary m r e f = subst (λ x. Loose arity m x) (sym e) f
 
   -- a destination
-  pub record Aimed (m : Made) (dest : Dest) (d : Register) (m' : Made) : Type 0 where
+  pub record Aimed (m : Made) (dest : Option Register) (d : Register) (m' : Made) : Type 0 where
     pub grown : Grown (count m) m m'
     pub level : count m' ≡ count m
     pub now : Held m' (reg_of d)
@@ -93,10 +92,10 @@ module _ (arity : ℕ) where
     pub spot : Spot dest m d
     pub fresh : (q : ℕ) → Held m q → Apart dest q → q ≢ reg_of d
 
-  pub destination_good : (m : Made) (dest : Dest) → Owns m → Target m dest → Holds (Aimed m dest) (destination dest m)
+  pub destination_good : (m : Made) (dest : Option Register) → Owns m → Target m dest → Holds (Aimed m dest) (destination dest m)
   unfolding destination
-  destination_good m (Dest.To d) o t = fine (record { grown = grown_refl _ m; level = refl; now = t.1; high = t.0; spot = refl; fresh = λ q h n. n })
-  destination_good m Dest.Any o t =
+  destination_good m (Some d) o t = fine (record { grown = grown_refl _ m; level = refl; now = t.1; high = t.0; spot = refl; fresh = λ q h n. n })
+  destination_good m None o t =
       weaken (take_holds m) (λ d m' k. record {
         grown = k.grown;
         level = k.level;
@@ -110,25 +109,25 @@ module _ (M : Operators) (args : ℕ → M.Value) (arity : ℕ) where
   abbrev pub Params : Registers M → Type 0
   Params R = (r : ℕ) → r < arity → R r ≡ args r
 
-  abbrev pub Keeps : Made → Dest → Registers M → Registers M → Type 0
+  abbrev pub Keeps : Made → Option Register → Registers M → Registers M → Type 0
   Keeps m dest R R' = (q : ℕ) → Held m q → Apart dest q → R' q ≡ R q
 
-  pub params_kept : (m : Made) (dest : Dest) {R R' : Registers M} → Owns arity m → Target arity m dest → Keeps m dest R R' → Params R → Params R'
-  params_kept m Dest.Any o t k a r h = k r (o.params r h) tt ∙ a r h
-  params_kept m (Dest.To d) o t k a r h = k r (o.params r h) (λ e. omega (arith, t.0)) ∙ a r h
+  pub params_kept : (m : Made) (dest : Option Register) {R R' : Registers M} → Owns arity m → Target arity m dest → Keeps m dest R R' → Params R → Params R'
+  params_kept m None o t k a r h = k r (o.params r h) tt ∙ a r h
+  params_kept m (Some d) o t k a r h = k r (o.params r h) (λ e. omega (arith, t.0)) ∙ a r h
 
   -- what a run with ending e needs once an answer is worked out: to go on from place p where the answer is a value, which D finds in the registers
-  abbrev pub Onward : {A : Type 0} → World M → Ending M → ℕ → Made → Dest → Registers M → (World M → Registers M → A → Type 0) → Evaluation M.Failure A → Type 0
+  abbrev pub Onward : {A : Type 0} → World M → Ending M → ℕ → Made → Option Register → Registers M → (World M → Registers M → A → Type 0) → Evaluation M.Failure A → Type 0
   Onward w e p m dest R D ans = After (λ v. (R' : Registers M) → D w R' v → Keeps m dest R R' → Run M arity w p R' e) (λ x. e ≡ failed x) ans
 
-  abbrev pub Sim : {A : Type 0} → Made → Made → Dest → Type 0 → Evaluation M.Failure A → (World M → Registers M → A → Type 0) → Type 0
+  abbrev pub Sim : {A : Type 0} → Made → Made → Option Register → Type 0 → Evaluation M.Failure A → (World M → Registers M → A → Type 0) → Type 0
   Sim m m' dest fair ans D = (laws : Hypotheses M) (w : World M) → Final w (count m) (count m') m' →
       (R : Registers M) (e : Ending M) → Params R → fair →
       Onward w e (w.base + count m') m dest R D ans →
       Run M arity w (w.base + count m) R e
 
   -- lowered into a register
-  pub record LoweredInto (m : Made) (dest : Dest) (s : ℕ) (fair : Type 0) (ans : Evaluation M.Failure M.Value) (r : Register) (m' : Made) : Type 0 where
+  pub record LoweredInto (m : Made) (dest : Option Register) (s : ℕ) (fair : Type 0) (ans : Evaluation M.Failure M.Value) (r : Register) (m' : Made) : Type 0 where
     pub grown : Grown (count m) m m'
     pub spot : Spot arity dest m r
     pub now : Held m' (reg_of r)
@@ -137,7 +136,7 @@ module _ (M : Operators) (args : ℕ → M.Value) (arity : ℕ) where
     pub sim : Sim m m' dest fair ans (λ w R v. R (reg_of r) ≡ v)
 
   -- lowered as an operand: a literal, and nothing made; or a register
-  pub data Expr (m : Made) (dest : Dest) (s : ℕ) (fair : Type 0) (ans : Evaluation M.Failure M.Value) : Source → Made → Type 0 where
+  pub data Expr (m : Made) (dest : Option Register) (s : ℕ) (fair : Type 0) (ans : Evaluation M.Failure M.Value) : Source → Made → Type 0 where
     literal : {c : Operand} → ans ≡ evaluates (constant M c) → Proper c → 1 ≤ s → Expr m dest s fair ans (Source.constant c) m
     in_register : {r : Register} {m' : Made} → LoweredInto m dest s fair ans r m' → Expr m dest s fair ans (Source.register r) m'
 
@@ -145,7 +144,7 @@ module _ (M : Operators) (args : ℕ → M.Value) (arity : ℕ) where
   known_value ans e = rw e tt
 
   -- a constant loaded into the destination
-  pub loaded : (c : Operand) {m m1 m2 m3 : Made} {dest : Dest} {s k n : ℕ} {d : Register} {fair : Type 0} {ans : Evaluation M.Failure M.Value} →
+  pub loaded : (c : Operand) {m m1 m2 m3 : Made} {dest : Option Register} {s k n : ℕ} {d : Register} {fair : Type 0} {ans : Evaluation M.Failure M.Value} →
       ans ≡ evaluates (constant M c) → Proper c → 1 ≤ s → Aimed arity m dest d m1 → ConstantPooled (constant_words c) m1 k m2 →
       InstructionPut (Instruction.LoadConst (reg_of d) k) m2 n m3 → LoweredInto m dest s fair ans d m3
   unfolding action act
@@ -160,7 +159,7 @@ module _ (M : Operators) (args : ℕ → M.Value) (arity : ℕ) where
         short = omega arith;
         known = known_value ans v;
         sim = λ laws w f R e pa fa k1.
-            let there : w.consts k ≡ some (constant M c) = f.pools k (constant_words c) (g.grown.kept.consts k (constant_words c) b.has) ∙ constant_words_lem M c pc in
+            let there : w.consts k ≡ Some (constant M c) = f.pools k (constant_words c) (g.grown.kept.consts k (constant_words c) b.has) ∙ constant_words_lem M c pc in
             let fetched : w.code (w.base + count m) ≡ decode (words_of (Instruction.LoadConst (reg_of d) k)) =
             f.codes (count m) (le_refl _) (omega arith) ∙ ap decode (g.there (count m) (omega arith)) in
             let inside : w.base + count m < w.limit = omega (arith, f.top) in
@@ -170,7 +169,7 @@ module _ (M : Operators) (args : ℕ → M.Value) (arity : ℕ) where
             (worked (after_value v k1 _ (hit (reg_of d) _ _) (λ q x y. miss q (reg_of d) _ _ (a.fresh q x y))));
       }
 
-  pub load_good : (c : Operand) (m : Made) (dest : Dest) {s : ℕ} {fair : Type 0} {ans : Evaluation M.Failure M.Value} →
+  pub load_good : (c : Operand) (m : Made) (dest : Option Register) {s : ℕ} {fair : Type 0} {ans : Evaluation M.Failure M.Value} →
       Owns arity m → Target arity m dest → ans ≡ evaluates (constant M c) → Proper c → 1 ≤ s → Holds (LoweredInto m dest s fair ans) (load_constant c dest m)
   unfolding load_constant
   load_good c m dest o t e pc h =
@@ -179,7 +178,7 @@ module _ (M : Operators) (args : ℕ → M.Value) (arity : ℕ) where
       chain (emit_holds (Instruction.LoadConst (reg_of d) k) m2) (λ n m3 g.
       fine (loaded c e pc h a b g))))
 
-  pub materialized_good : {m m' : Made} {dest : Dest} {s : ℕ} {fair : Type 0} {ans : Evaluation M.Failure M.Value} {x : Source} →
+  pub materialized_good : {m m' : Made} {dest : Option Register} {s : ℕ} {fair : Type 0} {ans : Evaluation M.Failure M.Value} {x : Source} →
       Owns arity m → Target arity m dest → Expr m dest s fair ans x m' → Holds (LoweredInto m dest s fair ans) (materialized x dest m')
   unfolding materialized
   materialized_good o t (in_register l) = fine l

@@ -1,5 +1,6 @@
 -- What each step of the walk does: the facts that the running law's induction uses. Only this file looks into how code, pool and registers are
 -- kept. Assumes nothing.
+use Rattle.std.specs.Prelude.{Result, Ok, Err}
 use Prim.Native.Nat.{ℕ, suc, ◌+◌, ◌*◌, ◌-◌, ◌≤◌, ◌<◌}
 use native.Mathlib.Omega.{arith}
 use native.Mathlib.Nat.{lt_of_lt_of_le, le_refl, le_trans, ne_of_lt, add-zero}
@@ -11,14 +12,12 @@ use lib.Dec.{eqb, ltb}
 use lib.ListN.{length, get_or, set, length-set}
 use borrow.Author.Tests.{ltb-true, eq-eqb, ne_eqb}
 use Rattle.diagnostics.specs.declared.Refusal.{Refusal}
-use Rattle.diagnostics.specs.declared.Place.{Place}
 use Rattle.diagnostics.specs.declared.Error.{Error}
 use Rattle.words.specs.Records.{Buffer, buffer, append, capacity, record_at, put_record, position}
 use Rattle.words.proofs.Records.{room, record_capacity, record_same, record_other, record_word}
 use Rattle.words.proofs.Search.{position_first, is_record}
 use Rattle.environment.specs.declared.Register.{Register}
 use Rattle.environment.specs.declared.RegisterSet.{RegisterSet}
-use Rattle.environment.specs.declared.Found.{Found}
 use Rattle.environment.specs.Registers.{held}
 use Rattle.environment.specs.Environment.{allocated, freed}
 use Rattle.environment.specs.Laws.{Sound, Takes, Gives}
@@ -29,7 +28,7 @@ use Rattle.runtime.specs.Operands.{reg_of}
 use Rattle.runtime.specs.Instruction.{instruction_width, words_of, offset_word}
 use Rattle.runtime.specs.Value.{constant_width, constant_words}
 use Rattle.runtime.specs.Function.{emit_instruction, store_constant}
-use Rattle.lowering.specs.Walk.{Made, Outcome, ends, stops, Walk, bind, ◌>>=◌}
+use Rattle.lowering.specs.Walk.{Made, Outcome, ends, stops, Walk, bind}
 use Rattle.lowering.specs.Steps.{placed, registered, with_registers, with_code, with_constants, allocate_temp, free_temp, emit, store, put_offset, patch_to_next}
 use Rattle.lowering.specs.Trace.{registers_of, Held, Free}
 use Rattle.runtime.proofs.Encoding.{length_words_of}
@@ -169,12 +168,12 @@ pub take_holds : (m : Made) → Holds (RegisterTaken m) (allocate_temp m)
 unfolding allocate_temp registered
 take_holds m = go (allocated Register.Temp (registers_of m)).register refl
   where
-    go : (f : Found) → (allocated Register.Temp (registers_of m)).register ≡ f →
+    go : (f : Result Register Refusal) → (allocated Register.Temp (registers_of m)).register ≡ f →
         Holds (RegisterTaken m) (registered f (with_registers (allocated Register.Temp (registers_of m)).set m))
-    go (Found.At r) e =
+    go (Ok r) e =
         let k : Allocates Register.Temp (registers_of m) r (allocated Register.Temp (registers_of m)).set = allocates Register.Temp (registers_of m) r e in
         fine (took m r k.number _ k.of_kind k.takes (allocated_sound Register.Temp (registers_of m)))
-    go (Found.Refused refusal) e = void
+    go (Err refusal) e = void
 
 -- ---- a register is given back that an earlier state held loosely
 
@@ -295,10 +294,10 @@ unfolding emit emit_instruction append placed
 emit_holds i m = go (ltb (count m) 1048576 && ltb (count m) (capacity (length (words_of i)) m.code)) refl
   where
     full : Buffer
-    full = buffer (put_record (length (words_of i)) m.code (count m) (words_of i)) (record { count = count m + 1; place = Place.At (count m) })
+    full = buffer (put_record (length (words_of i)) m.code (count m) (words_of i)) (record { count = count m + 1; place = Ok (count m) })
 
     none : Buffer
-    none = buffer m.code (record { count = count m; place = Place.Refused Refusal.Code })
+    none = buffer m.code (record { count = count m; place = Err Refusal.Code })
 
     go : (b : Bool) → (ltb (count m) 1048576 && ltb (count m) (capacity (length (words_of i)) m.code)) ≡ b →
         Holds (InstructionPut i m) (placed (cond b full none).answer.place (with_code (cond b full none).words (cond b full none).answer.count m))
@@ -435,13 +434,13 @@ pool_holds c m = go (ltb place n) refl
     place = position m.constants r n
 
     old : Buffer
-    old = buffer m.constants (record { count = n; place = Place.At place })
+    old = buffer m.constants (record { count = n; place = Ok place })
 
     full : Buffer
-    full = buffer (put_record (length r) m.constants n r) (record { count = n + 1; place = Place.At n })
+    full = buffer (put_record (length r) m.constants n r) (record { count = n + 1; place = Ok n })
 
     none : Buffer
-    none = buffer m.constants (record { count = n; place = Place.Refused Refusal.Constants })
+    none = buffer m.constants (record { count = n; place = Err Refusal.Constants })
 
     leave : Buffer → Outcome ℕ
     leave b = placed b.answer.place (with_constants b.words b.answer.count m)

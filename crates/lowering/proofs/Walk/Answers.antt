@@ -13,7 +13,6 @@ use borrow.Author.Tests.{leb-true, ltb-true, lt-ltb, le-leb}
 use Rattle.diagnostics.specs.declared.Refusal.{Refusal}
 use Rattle.diagnostics.specs.declared.Error.{Error}
 use Rattle.diagnostics.specs.Refusal.{refusal_number}
-use Rattle.words.specs.Words.{words}
 use Rattle.words.specs.Records.{capacity}
 use Rattle.words.proofs.Records.{room}
 use Rattle.runtime.specs.Instruction.{instruction_width, first_jump, last_jump, offset_word}
@@ -22,8 +21,8 @@ use Rattle.lowering.specs.Tree.{Tree, tree_of}
 use Rattle.lowering.specs.Checked.{AllYes, FirstNo}
 use Rattle.lowering.specs.Walk.{Made, stops, made_of}
 use Rattle.lowering.specs.Steps.{free_temp, put_offset}
-use Rattle.lowering.specs.Result.{Result, Lowered, result, lowered, begin, lower_root, lowered_of, lower_checked, lower, can_patch, JumpPatched, patch_jump}
-use Rattle.lowering.specs.Trace.{Own, instructions_of, constants_of, marks_of}
+use Rattle.lowering.specs.Result.{Result, Lowered, lowered, begin, lower_root, lowered_of, lower_checked, lower, can_patch, JumpPatched, patch_jump}
+use Rattle.lowering.specs.Trace.{instructions_of, constants_of, marks_of}
 use Rattle.lowering.specs.Answers.{nothing_made, Untouched, Stopped, StopsWith, Tells, Ended, marks_made, mark_count, Within, kind, MayPatch, MayNot, index_past, count_past, kind_below, kind_past, OneWord}
 use Rattle.lowering.proofs.Running.Decode.{offset_small}
 use Rattle.lowering.proofs.Questions.Checked.{questions_passed, questions_refused, and_left, and_right}

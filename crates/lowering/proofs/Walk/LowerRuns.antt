@@ -11,7 +11,6 @@ use Rattle.diagnostics.specs.declared.Refusal.{Refusal}
 use Rattle.diagnostics.specs.declared.Error.{Error}
 use Rattle.diagnostics.specs.Refusal.{refusal_number}
 use Rattle.words.specs.Words.{words}
-use Rattle.environment.specs.Environment.{parameters}
 use Rattle.environment.specs.Laws.{Sound}
 use Rattle.environment.proofs.Laws.{parameters_sound}
 use Rattle.lowering.specs.Tree.{Tree, tree_of}

@@ -1,17 +1,15 @@
 -- How many marks a walk makes: at most 255 for each instruction, and 255 more for each call that it is in when it stops. So the marks of a lowering are
 -- far below what a count of 32 bits can say, and 16 is only answered where the mark buffer is full. Assumes nothing.
+use Rattle.std.specs.Prelude.{Option, Some, None, Result, Ok, Err}
 use Prim.Native.Nat.{ℕ, zero, suc, ◌+◌, ◌*◌, ◌-◌, ◌≤◌, ◌<◌}
 use native.Mathlib.Omega.{arith}
 use mathlib.Core.Bool.{Bool, true, false, cond, ◌&&◌}
 use mathlib.Core.List.{[], ◌∷◌}
-use mathlib.Core.Option.{Option, none, some}
 use lib.Dec.{eqb, leb, ltb}
 use lib.ListN.{length, get_or, set}
 use Rattle.diagnostics.specs.declared.Refusal.{Refusal}
 use Rattle.diagnostics.specs.declared.Error.{Error}
-use Rattle.diagnostics.specs.declared.Place.{Place}
 use Rattle.environment.specs.declared.Register.{Register}
-use Rattle.environment.specs.declared.Found.{Found}
 use Rattle.environment.specs.Environment.{allocated}
 use Rattle.words.specs.Records.{append, Buffer, buffer, put_record, capacity, max_count}
 use Rattle.syntax.specs.declared.ast.Node.{Node}
@@ -22,7 +20,6 @@ use Rattle.runtime.specs.declared.instruction.Instruction.{Instruction}
 use Rattle.runtime.specs.declared.operand.Operand.{Operand}
 use Rattle.runtime.specs.Instruction.{instruction_width, words_of, has_destination}
 use Rattle.runtime.specs.Function.{emit_instruction, store_constant, max_instructions}
-use Rattle.lowering.specs.declared.Dest.{Dest}
 use Rattle.lowering.specs.Tree.{Tree, node, children}
 use Rattle.lowering.specs.Questions.{question7}
 use Rattle.lowering.specs.Checked.{Checked}
@@ -39,13 +36,13 @@ use Rattle.lowering.proofs.Walk.StepLaws.{below_named}
 -- what an append leaves, by its answer
 abbrev chosen : Made → Instruction → Bool → Buffer
 chosen m i c =
-    cond c (buffer (put_record (length (words_of i)) m.code m.state.instructions (words_of i)) (record { count = m.state.instructions + 1; place = Place.At m.state.instructions }))
-    (buffer m.code (record { count = m.state.instructions; place = Place.Refused Refusal.Code }))
+    cond c (buffer (put_record (length (words_of i)) m.code m.state.instructions (words_of i)) (record { count = m.state.instructions + 1; place = Ok m.state.instructions }))
+    (buffer m.code (record { count = m.state.instructions; place = Err Refusal.Code }))
 
 abbrev marking : Made → Bool → Buffer
 marking m c =
-    cond c (buffer (put_record 1 m.marks m.state.marks ((m.state.instructions - 1) ∷ [])) (record { count = m.state.marks + 1; place = Place.At m.state.marks }))
-    (buffer m.marks (record { count = m.state.marks; place = Place.Refused Refusal.Marks }))
+    cond c (buffer (put_record 1 m.marks m.state.marks ((m.state.instructions - 1) ∷ [])) (record { count = m.state.marks + 1; place = Ok m.state.marks }))
+    (buffer m.marks (record { count = m.state.marks; place = Err Refusal.Marks }))
 
 -- Against 255 marks for each instruction made: where a walk ends, it is at least x marks behind, or at most y ahead; where it stops, at most b ahead.
 abbrev PaceOf : {A : Type 0} → ℕ → ℕ → ℕ → Made → Outcome A → Type 0
@@ -97,14 +94,14 @@ module _ (b : ℕ) where
   unfolding allocate_temp registered
   steady_take = record { at = λ m. go m (allocated Register.Temp m.state.registers).register }
     where
-      go : (m : Made) (f : Found) → PaceOf 0 0 b m (registered f (with_registers (allocated Register.Temp m.state.registers).set m))
-      go m (Found.At r) = omega arith
-      go m (Found.Refused r) = omega arith
+      go : (m : Made) (f : Result Register Refusal) → PaceOf 0 0 b m (registered f (with_registers (allocated Register.Temp m.state.registers).set m))
+      go m (Ok r) = omega arith
+      go m (Err r) = omega arith
 
-  steady_destination : (dest : Dest) → Steady b (destination dest)
+  steady_destination : (dest : Option Register) → Steady b (destination dest)
   unfolding destination
-  steady_destination Dest.Any = steady_take
-  steady_destination (Dest.To d) = steady_ret d
+  steady_destination None = steady_take
+  steady_destination (Some d) = steady_ret d
 
   steady_store : (c : Operand) → Steady b (store c)
   unfolding store placed
@@ -113,9 +110,9 @@ module _ (b : ℕ) where
       go : (m : Made) (after : Buffer) → PaceOf 0 0 b m (placed after.answer.place (with_constants after.words after.answer.count m))
       go m after = place after.answer.place
         where
-          place : (p : Place) → PaceOf 0 0 b m (placed p (with_constants after.words after.answer.count m))
-          place (Place.At p) = omega arith
-          place (Place.Refused r) = omega arith
+          place : (p : Result ℕ Refusal) → PaceOf 0 0 b m (placed p (with_constants after.words after.answer.count m))
+          place (Ok p) = omega arith
+          place (Err r) = omega arith
 
   -- an instruction: 255 behind
   paid_emit : (i : Instruction) → Pace 255 0 b (emit i)
@@ -134,16 +131,16 @@ module _ (b : ℕ) where
       go m (ends a n) h = omega arith
       go m (stops e n) h = h
 
-  steady_load : (c : Operand) (dest : Dest) → Steady b (load_constant c dest)
+  steady_load : (c : Operand) (dest : Option Register) → Steady b (load_constant c dest)
   unfolding load_constant
   steady_load c dest = steady_chain (steady_destination dest) (λ d. steady_chain (steady_store c) (λ k. steady_chain (steady_emit _) (λ p. steady_ret d)))
 
-  steady_materialized : (x : Source) (dest : Dest) → Steady b (materialized x dest)
+  steady_materialized : (x : Source) (dest : Option Register) → Steady b (materialized x dest)
   unfolding materialized
   steady_materialized (register r) dest = steady_ret r
   steady_materialized (constant c) dest = steady_load c dest
 
-  steady_materializing : (own : Dest → Walk Operand) (dest : Dest) → Steady b (own dest) → Steady b (lower_materializing own dest)
+  steady_materializing : (own : Option Register → Walk Operand) (dest : Option Register) → Steady b (own dest) → Steady b (lower_materializing own dest)
   unfolding lower_materializing
   steady_materializing own dest h = steady_chain h (λ x. steady_materialized (source x) dest)
 
@@ -171,19 +168,19 @@ steady_cond true p q = p
 steady_cond false p q = q
 
 module _ (t : Tree) (b : ℕ) where
-  steady_moved : (r : Register) (dest : Dest) → Steady b (moved t r dest)
+  steady_moved : (r : Register) (dest : Option Register) → Steady b (moved t r dest)
   unfolding moved
-  steady_moved r Dest.Any = steady_ret _
-  steady_moved r (Dest.To d) = steady_cond (same_register d r) (steady_ret _) (steady_chain (steady_emit b _) (λ p. steady_ret _))
+  steady_moved r None = steady_ret _
+  steady_moved r (Some d) = steady_cond (same_register d r) (steady_ret _) (steady_chain (steady_emit b _) (λ p. steady_ret _))
 
-  steady_named : (i : ℕ) (f : Found) (dest : Dest) → Steady b (lower_name t i f dest)
+  steady_named : (i : ℕ) (f : Result Register Refusal) (dest : Option Register) → Steady b (lower_name t i f dest)
   unfolding lower_name
-  steady_named i (Found.At r) dest = steady_moved r dest
-  steady_named i (Found.Refused refusal) dest = steady_stop _
+  steady_named i (Ok r) dest = steady_moved r dest
+  steady_named i (Err refusal) dest = steady_stop _
 
   -- by walks on the children that keep the pace
-  module _ (E : ℕ → Dest → Walk Operand) (steady : (i : ℕ) (dest : Dest) → Steady b (E i dest)) where
-    child : (i : ℕ) (dest : Dest) → Steady b (lower_materializing (E i) dest)
+  module _ (E : ℕ → Option Register → Walk Operand) (steady : (i : ℕ) (dest : Option Register) → Steady b (E i dest)) where
+    child : (i : ℕ) (dest : Option Register) → Steady b (lower_materializing (E i) dest)
     child i dest = steady_materializing b (E i) dest (steady i dest)
 
     finish_one : (i : Instruction) (src d : Register) → Steady b (emit i >> (free_temp src >> ret (Operand.Register d)))
@@ -194,7 +191,7 @@ module _ (t : Tree) (b : ℕ) where
 
     steady_sources : (op : BinaryOp) (left right : ℕ) (d : Register) (x y : Source) → Steady b (binary_sources free_temp t E op left right d x y)
     unfolding binary_sources
-    steady_sources op left right d (constant x) (constant y) = steady_chain (child left Dest.Any) (λ r. steady_chain (child right Dest.Any) (λ q. finish_two _ r q d))
+    steady_sources op left right d (constant x) (constant y) = steady_chain (child left None) (λ r. steady_chain (child right None) (λ q. finish_two _ r q d))
     steady_sources op left right d (register x) (constant y) = steady_chain (steady_store b y) (λ k. finish_one _ x d)
     steady_sources op left right d (constant x) (register y) = steady_chain (steady_store b x) (λ k. finish_one _ y d)
     steady_sources op left right d (register x) (register y) = finish_two _ x y d
@@ -213,13 +210,13 @@ module _ (t : Tree) (b : ℕ) where
 
     steady_entry : (d : Register) (key value : ℕ) (name : Option ℕ) → Steady b (lower_entry t E d key value name)
     unfolding lower_entry
-    steady_entry d key value (some name) =
+    steady_entry d key value (Some name) =
         steady_cond (eqb value absent)
-        (steady_chain (child key Dest.Any) (λ src. steady_chain (steady_store b (Operand.String name)) (λ k. steady_emit b _)))
-        (steady_chain (steady value Dest.Any) (λ src. steady_chain (steady_store b (Operand.String name)) (λ k. steady_store_named d k (source src))))
-    steady_entry d key value none =
+        (steady_chain (child key None) (λ src. steady_chain (steady_store b (Operand.String name)) (λ k. steady_emit b _)))
+        (steady_chain (steady value None) (λ src. steady_chain (steady_store b (Operand.String name)) (λ k. steady_store_named d k (source src))))
+    steady_entry d key value None =
         steady_cond (eqb value absent) (steady_stop _)
-        (steady_chain (steady key Dest.Any) (λ k. steady_chain (steady value Dest.Any) (λ v. steady_store_keyed d (source k) (source v))))
+        (steady_chain (steady key None) (λ k. steady_chain (steady value None) (λ v. steady_store_keyed d (source k) (source v))))
 
     steady_entries : (d : Register) (start n k : ℕ) → Steady b (lower_entries t E d start n k)
     unfolding lower_entries
@@ -235,16 +232,16 @@ module _ (t : Tree) (b : ℕ) where
         (λ r. pace_chain 0 (suc n) (b + suc n) (omega arith) (omega arith) (omega arith) (ahead_mark b _ _ _) (λ q. ahead_arguments i start n (suc k)))
 
     module _ (J : ℕ → Walk ℕ) (jumps : (i : ℕ) → Steady b (J i)) where
-      steady_call : (i callee start count : ℕ) (dest : Dest) → count ≤ 255 → Steady (b + 255) (lower_node free_temp t E J i (Node.FunctionCall callee start count) dest)
+      steady_call : (i callee start count : ℕ) (dest : Option Register) → count ≤ 255 → Steady (b + 255) (lower_node free_temp t E J i (Node.FunctionCall callee start count) dest)
       unfolding lower_node
       steady_call i callee start count dest h =
           pace_chain 0 0 (b + 255) (omega arith) (omega arith) (omega arith) (ahead_arguments i start count 0)
           (λ u. pace_chain 255 0 b (omega arith) (omega arith) (omega arith) (steady_destination b dest)
-          (λ d. pace_chain 255 0 b (omega arith) (omega arith) (omega arith) (child callee Dest.Any)
+          (λ d. pace_chain 255 0 b (omega arith) (omega arith) (omega arith) (child callee None)
           (λ src. pace_chain 255 0 b (omega arith) (omega arith) (omega arith) (paid_emit b _)
           (λ p. steady_chain (steady_free b src) (λ v. steady_ret (Operand.Register d))))))
 
-      steady_node : (i : ℕ) (n : Node) (dest : Dest) → InRange (length t.list) n → Steady (b + 255) (lower_node free_temp t E J i n dest)
+      steady_node : (i : ℕ) (n : Node) (dest : Option Register) → InRange (length t.list) n → Steady (b + 255) (lower_node free_temp t E J i n dest)
       unfolding lower_node lower_else lower_tail
       steady_node i (Node.Number low high) dest f = steady_ret _
       steady_node i (Node.String symbol) dest f = steady_ret _
@@ -252,38 +249,38 @@ module _ (t : Tree) (b : ℕ) where
       steady_node i Node.Nil dest f = steady_ret _
       steady_node i (Node.Identifier symbol) dest f = steady_more (omega arith) (steady_named i _ dest)
       steady_node i (Node.Binary op l r) dest f =
-          steady_more (omega arith) (steady_chain (steady_destination b dest) (λ d. steady_chain (steady l Dest.Any) (λ x. steady_chain (steady r Dest.Any) (λ y. steady_sources op l r d (source x) (source y)))))
+          steady_more (omega arith) (steady_chain (steady_destination b dest) (λ d. steady_chain (steady l None) (λ x. steady_chain (steady r None) (λ y. steady_sources op l r d (source x) (source y)))))
       steady_node i (Node.Unary op x) dest f =
-          steady_more (omega arith) (steady_chain (steady_destination b dest) (λ d. steady_chain (child x Dest.Any) (λ src. finish_one _ src d)))
+          steady_more (omega arith) (steady_chain (steady_destination b dest) (λ d. steady_chain (child x None) (λ src. finish_one _ src d)))
       steady_node i (Node.LogicalNot x) dest f =
-          steady_more (omega arith) (steady_chain (steady_destination b dest) (λ d. steady_chain (child x Dest.Any) (λ src. finish_one _ src d)))
+          steady_more (omega arith) (steady_chain (steady_destination b dest) (λ d. steady_chain (child x None) (λ src. finish_one _ src d)))
       steady_node i (Node.LogicalAnd l r) dest f =
-          steady_more (omega arith) (steady_chain (steady_destination b dest) (λ d. steady_chain (child l (Dest.To d)) (λ src. steady_chain (steady_emit b _) (λ j.
-          steady_chain (child r (Dest.To d)) (λ q. steady_chain (steady_patch b j) (λ u. steady_ret _))))))
+          steady_more (omega arith) (steady_chain (steady_destination b dest) (λ d. steady_chain (child l (Some d)) (λ src. steady_chain (steady_emit b _) (λ j.
+          steady_chain (child r (Some d)) (λ q. steady_chain (steady_patch b j) (λ u. steady_ret _))))))
       steady_node i (Node.LogicalOr l r) dest f =
-          steady_more (omega arith) (steady_chain (steady_destination b dest) (λ d. steady_chain (child l (Dest.To d)) (λ src. steady_chain (steady_emit b _) (λ j.
-          steady_chain (child r (Dest.To d)) (λ q. steady_chain (steady_patch b j) (λ u. steady_ret _))))))
+          steady_more (omega arith) (steady_chain (steady_destination b dest) (λ d. steady_chain (child l (Some d)) (λ src. steady_chain (steady_emit b _) (λ j.
+          steady_chain (child r (Some d)) (λ q. steady_chain (steady_patch b j) (λ u. steady_ret _))))))
       steady_node i (Node.If c a e) dest f =
-          steady_more (omega arith) (steady_chain (jumps c) (λ j. steady_chain (steady_destination b dest) (λ d. steady_chain (child a (Dest.To d)) (λ r.
+          steady_more (omega arith) (steady_chain (jumps c) (λ j. steady_chain (steady_destination b dest) (λ d. steady_chain (child a (Some d)) (λ r.
           steady_chain (steady_emit b _) (λ end. steady_chain (steady_patch b j) (λ u.
-          steady_chain (steady_cond (eqb e absent) (steady_stop _) (child e (Dest.To d))) (λ q. steady_chain (steady_patch b end) (λ v. steady_ret _))))))))
+          steady_chain (steady_cond (eqb e absent) (steady_stop _) (child e (Some d))) (λ q. steady_chain (steady_patch b end) (λ v. steady_ret _))))))))
       steady_node i (Node.Block tail) dest f =
           steady_more (omega arith) (steady_chain (steady_destination b dest) (λ d.
-          steady_chain (steady_cond (eqb tail absent) (steady_load b Operand.Nil (Dest.To d)) (child tail (Dest.To d))) (λ r. steady_ret _)))
+          steady_chain (steady_cond (eqb tail absent) (steady_load b Operand.Nil (Some d)) (child tail (Some d))) (λ r. steady_ret _)))
       steady_node i (Node.FunctionCall callee start count) dest f = steady_call i callee start count dest f.1
       steady_node i (Node.PropertyAccess x property) dest f =
-          steady_more (omega arith) (steady_chain (steady_destination b dest) (λ d. steady_chain (child x Dest.Any) (λ src.
+          steady_more (omega arith) (steady_chain (steady_destination b dest) (λ d. steady_chain (child x None) (λ src.
           steady_chain (steady_store b (Operand.String property)) (λ k. finish_one _ src d))))
       steady_node i (Node.Map start count) dest f =
           steady_more (omega arith) (steady_chain (steady_destination b dest) (λ d. steady_chain (steady_emit b _) (λ p.
           steady_chain (steady_entries d start count 0) (λ u. steady_ret _))))
 
 -- a condition, by walks on the children that keep the pace where they hold P
-module _ (t : Tree) (b : ℕ) (E : ℕ → Dest → Walk Operand) (P : ℕ → Type 0) (steady : (i : ℕ) → P i → (dest : Dest) → Steady b (E i dest))
-    (sense : Bool) (own : Dest → Walk Operand) (owns : (dest : Dest) → Steady b (own dest)) where
+module _ (t : Tree) (b : ℕ) (E : ℕ → Option Register → Walk Operand) (P : ℕ → Type 0) (steady : (i : ℕ) → P i → (dest : Option Register) → Steady b (E i dest))
+    (sense : Bool) (own : Option Register → Walk Operand) (owns : (dest : Option Register) → Steady b (own dest)) where
   steady_tested : Steady b (test t E sense own)
   unfolding test
-  steady_tested = steady_chain (steady_materializing b own Dest.Any (owns Dest.Any)) (λ src. steady_emit b _)
+  steady_tested = steady_chain (steady_materializing b own None (owns None)) (λ src. steady_emit b _)
 
   steady_fused_sources : (c : Comparison) (x y : Source) → Steady b (fused_sources t E sense own c x y)
   unfolding fused_sources
@@ -294,9 +291,9 @@ module _ (t : Tree) (b : ℕ) (E : ℕ → Dest → Walk Operand) (P : ℕ → T
 
   steady_fused : (c : Option Comparison) (left right : ℕ) → P left → P right → Steady b (fuse t E sense own c left right)
   unfolding fuse
-  steady_fused none left right p q = steady_tested
-  steady_fused (some c) left right p q =
-      steady_chain (steady left p Dest.Any) (λ x. steady_chain (steady right q Dest.Any) (λ y. steady_fused_sources c (source x) (source y)))
+  steady_fused None left right p q = steady_tested
+  steady_fused (Some c) left right p q =
+      steady_chain (steady left p None) (λ x. steady_chain (steady right q None) (λ y. steady_fused_sources c (source x) (source y)))
 
   steady_jump : (n : Node) → ((c : ℕ) → Named c (children t.list n) → P c) → Steady b (jump_node t E sense own n)
   unfolding jump_node children
@@ -321,7 +318,7 @@ module _ (t : Tree) (checked : Checked t) where
   mutual
     unfolding expression_below jump_below
 
-    expression_pace : (f i : ℕ) (dest : Dest) → Steady (255 * f) (expression_below free_temp t f i dest)
+    expression_pace : (f i : ℕ) (dest : Option Register) → Steady (255 * f) (expression_below free_temp t f i dest)
     expression_pace zero i dest = steady_stop _
     expression_pace (suc f) i dest =
         steady_more (omega arith)
@@ -359,7 +356,7 @@ module _ (t : Tree) (checked : Checked t) where
   unfolding lower_root lower_expression lower_jump_if_false lower_jump_if_true question7
   root_pace zero root =
       let b : ℕ = 255 * suc root in
-      steady_chain (steady_materializing b (expression_below free_temp t (suc root) root) Dest.Any (expression_pace (suc root) root Dest.Any)) (λ src.
+      steady_chain (steady_materializing b (expression_below free_temp t (suc root) root) None (expression_pace (suc root) root None)) (λ src.
       steady_chain (steady_emit b _) (λ p. steady_chain (steady_arguments b) (λ u. steady_ret 0)))
   root_pace (suc zero) root = steady_chain (jump_pace (suc root) root) (λ j. steady_chain (steady_arguments (255 * suc root)) (λ u. steady_ret j))
   root_pace (suc (suc mode)) root =

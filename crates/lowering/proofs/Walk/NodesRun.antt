@@ -1,4 +1,5 @@
 -- Every node of a checked tree is lowered by good steps, as an expression and as a condition: one induction over the fifteen kinds. Assumes nothing.
+use Rattle.std.specs.Prelude.{Option, Some, None, Result, Ok, Err}
 use Prim.Native.Nat.{ℕ, zero, suc, ◌+◌, ◌*◌, ◌≤◌, ◌<◌}
 use native.Mathlib.Omega.{arith}
 use native.Mathlib.Nat.{lt_of_lt_of_le}
@@ -6,14 +7,12 @@ use mathlib.Core.Path.{◌≡◌, refl, sym, ap, ◌∙◌, subst}
 use mathlib.Core.Logic.{◌≢◌}
 use mathlib.Core.Bool.{Bool, true, false, cond}
 use mathlib.Core.List.{List, [], ◌∷◌, ◌++◌}
-use mathlib.Core.Option.{Option, none, some}
 use lib.Dec.{eqb}
 use lib.ListN.{length, get_or, take, drop, length-take, length-drop}
 use lib.Seq.{get_or-take, get_or-drop}
 use borrow.Author.Tests.{eqb-true, eqb-false}
 use Rattle.diagnostics.specs.declared.Refusal.{Refusal}
 use Rattle.environment.specs.declared.Register.{Register}
-use Rattle.environment.specs.declared.Found.{Found}
 use Rattle.environment.specs.Environment.{lookup}
 use Rattle.environment.specs.Laws.{Sound, Last, Undeclared}
 use Rattle.environment.proofs.Laws.{lookup_found, lookup_refused}
@@ -25,7 +24,6 @@ use Rattle.runtime.specs.declared.instruction.Instruction.{Instruction}
 use Rattle.runtime.specs.declared.operand.Operand.{Operand}
 use Rattle.runtime.specs.Operands.{reg_of}
 use Rattle.runtime.specs.Instruction.{words_of}
-use Rattle.lowering.specs.declared.Dest.{Dest}
 use Rattle.lowering.specs.Tree.{Tree, node, span_start, span_end, present, entry_nodes, children}
 use Rattle.lowering.specs.Walk.{Made, stops, Walk, ◌>>=◌, ◌>>◌, ret, error}
 use Rattle.lowering.specs.Steps.{destination, emit, load_constant, patch_to_next}
@@ -80,10 +78,10 @@ named_value (key ∷ value ∷ l) (suc k) h p =
     rw two (later (named_after (present value) (named_value l k (omega arith) (rw two at p))))
 
 -- a name's own constant is its name
-none_some : {name : ℕ} → none ≡ some name → ⊥
+none_some : {name : ℕ} → None ≡ Some name → ⊥
 none_some e = let z : ◌≡◌ {A = ℕ} 0 1 = cc in omega arith
 
-name_constant : (n : Node) (name : ℕ) → name_of n ≡ some name → constant_of_node n ≡ some (Operand.String name)
+name_constant : (n : Node) (name : ℕ) → name_of n ≡ Some name → constant_of_node n ≡ Some (Operand.String name)
 unfolding name_of constant_of_node
 name_constant (Node.Number low high) name e = absurd (none_some e)
 name_constant (Node.String symbol) name e = absurd (none_some e)
@@ -103,19 +101,19 @@ name_constant (Node.Map f n) name e = absurd (none_some e)
 
 module _ (t : Tree) (root : ℕ) where
   -- a lowered operand: in a register, or the constant of a node that is not pooled yet
-  abbrev pub OperandStands : Made → Dest → Made → Source → Type 0
+  abbrev pub OperandStands : Made → Option Register → Made → Source → Type 0
   OperandStands m dest n (register r) = MayStand m dest r × RegisterReady n r
   OperandStands m dest n (constant c) = Owned t root c
 
-  operand_later : (m : Made) {n o : Made} (dest : Dest) (x : Source) → Kept n o → OperandStands m dest n x → OperandStands m dest o x
+  operand_later : (m : Made) {n o : Made} (dest : Option Register) (x : Source) → Kept n o → OperandStands m dest n x → OperandStands m dest o x
   operand_later m dest (register r) k a = (a.0, register_ready_later r k a.1)
   operand_later m dest (constant c) k a = a
 
-  operand_before : {m n : Made} (o : Made) (dest : Dest) (x : Source) → Kept m n → OperandStands n dest o x → OperandStands m dest o x
+  operand_before : {m n : Made} (o : Made) (dest : Option Register) (x : Source) → Kept m n → OperandStands n dest o x → OperandStands m dest o x
   operand_before o dest (register r) k a = (may_stand_before dest r k a.0, a.1)
   operand_before o dest (constant c) k a = a
 
-  pub record LoweredOperand (m : Made) (dest : Dest) (x : Operand) (n : Made) : Type 0 where
+  pub record LoweredOperand (m : Made) (dest : Option Register) (x : Operand) (n : Made) : Type 0 where
     pub kept : Kept m n
     pub answer : OperandStands m dest n (source x)
 
@@ -125,11 +123,11 @@ module _ (t : Tree) (root : ℕ) where
     pub inside : j < instructions_of n
     pub kind : JumpKind (kind_at n j)
 
-  settled_operand : {m n : Made} {dest : Dest} {r : Register} → Settled m dest r n → LoweredOperand m dest (Operand.Register r) n
+  settled_operand : {m n : Made} {dest : Option Register} {r : Register} → Settled m dest r n → LoweredOperand m dest (Operand.Register r) n
   unfolding source
   settled_operand s = record { kept = s.kept; answer = (s.spot, s.ready) }
 
-  load_good : (c : Operand) → Owned t root c → (m : Made) (dest : Dest) → DestReady m dest → Good t root (Settled m dest) (λ F. load_constant c dest) m
+  load_good : (c : Operand) → Owned t root c → (m : Made) (dest : Option Register) → DestReady m dest → Good t root (Settled m dest) (λ F. load_constant c dest) m
   unfolding load_constant words_of
   load_good c o m dest g =
       chain (destination_good m dest g) (λ d m1 a.
@@ -138,20 +136,20 @@ module _ (t : Tree) (root : ℕ) where
       let k3 : Kept m1 m3 = kept_trans b.kept e.kept in
       done d (record { kept = kept_trans a.kept k3; spot = a.spot; ready = register_ready_later d k3 a.ready }))))
 
-  materialized_good : (x : Source) {m n : Made} (dest : Dest) → Kept m n → DestReady m dest → OperandStands m dest n x → Good t root (Settled m dest) (λ F. materialized x dest) n
+  materialized_good : (x : Source) {m n : Made} (dest : Option Register) → Kept m n → DestReady m dest → OperandStands m dest n x → Good t root (Settled m dest) (λ F. materialized x dest) n
   unfolding materialized
   materialized_good (register r) dest k g h = done r (record { kept = k; spot = h.0; ready = h.1 })
   materialized_good (constant c) {m} {n} dest k g h =
       relax (load_good c h n dest (dest_ready_later dest k g))
       (λ r o s. record { kept = kept_trans k s.kept; spot = may_stand_before dest r k s.spot; ready = s.ready })
 
-  pub materializing_good : (own : GiveBack → Dest → Walk Operand) (dest : Dest) (m : Made) → DestReady m dest → Good t root (LoweredOperand m dest) (λ F. own F dest) m →
+  pub materializing_good : (own : GiveBack → Option Register → Walk Operand) (dest : Option Register) (m : Made) → DestReady m dest → Good t root (LoweredOperand m dest) (λ F. own F dest) m →
       Good t root (Settled m dest) (λ F. lower_materializing (own F) dest) m
   unfolding lower_materializing
   materializing_good own dest m g h = chain h (λ x n l. materialized_good (source x) dest l.kept g l.answer)
 
   -- one instruction after a destination, and the registers that it used given back
-  one_good : (i : Instruction) {m m0 ma mb : Made} {dest : Dest} (d src : Register) → Settled m dest d m0 → Kept m0 ma → NotHeld m0 src → RegisterReady ma src → Kept ma mb →
+  one_good : (i : Instruction) {m m0 ma mb : Made} {dest : Option Register} (d src : Register) → Settled m dest d m0 → Kept m0 ma → NotHeld m0 src → RegisterReady ma src → Kept ma mb →
       Sound (registers_of m) → Narrow (constants_of mb) (words_of i) →
       Good t root (LoweredOperand m dest) (λ F. emit i >> (F src >> ret (Operand.Register d))) mb
   one_good i {m} {m0} {ma} {mb} {dest} d src s ka l r kb sound fits =
@@ -161,7 +159,7 @@ module _ (t : Tree) (root : ℕ) where
       chain (give_good src l (register_ready_later src kc r) (k0.sound (s.kept.sound sound)) k0) (λ u n g.
       done (Operand.Register d) (settled_operand (record { kept = kept_trans s.kept g.kept; spot = s.spot; ready = register_ready_later d g.kept s.ready }))))
 
-  two_good : (i : Instruction) {m m0 ma mb : Made} {dest : Dest} (d src1 src2 : Register) → Settled m dest d m0 → Kept m0 ma → NotHeld m0 src1 → RegisterReady ma src1 →
+  two_good : (i : Instruction) {m m0 ma mb : Made} {dest : Option Register} (d src1 src2 : Register) → Settled m dest d m0 → Kept m0 ma → NotHeld m0 src1 → RegisterReady ma src1 →
       Kept ma mb → NotHeld ma src2 → RegisterReady mb src2 → Sound (registers_of m) → Narrow (constants_of mb) (words_of i) →
       Good t root (LoweredOperand m dest) (λ F. emit i >> (F src1 >> (F src2 >> ret (Operand.Register d)))) mb
   two_good i {m} {m0} {ma} {mb} {dest} d src1 src2 s ka l1 r1 kb l2 r2 sound fits =
@@ -175,47 +173,47 @@ module _ (t : Tree) (root : ℕ) where
 
   -- ---- a name
 
-  moved_good : (r : ℕ) → r < 256 → (dest : Dest) (m : Made) → DestReady m dest → Good t root (LoweredOperand m dest) (λ F. moved t (Register.Local r) dest) m
+  moved_good : (r : ℕ) → r < 256 → (dest : Option Register) (m : Made) → DestReady m dest → Good t root (LoweredOperand m dest) (λ F. moved t (Register.Local r) dest) m
   unfolding moved source words_of reg_of
-  moved_good r h Dest.Any m g = done (Operand.Register (Register.Local r)) (record { kept = kept_refl m; answer = (tt, h) })
-  moved_good r h (Dest.To d) m g = go (same_register d (Register.Local r))
+  moved_good r h None m g = done (Operand.Register (Register.Local r)) (record { kept = kept_refl m; answer = (tt, h) })
+  moved_good r h (Some d) m g = go (same_register d (Register.Local r))
     where
-      go : (b : Bool) → Good t root (LoweredOperand m (Dest.To d))
+      go : (b : Bool) → Good t root (LoweredOperand m (Some d))
           (λ F. cond b (ret (Operand.Register d)) (emit (Instruction.Move (reg_of d) (reg_of (Register.Local r))) >> ret (Operand.Register d))) m
       go true = done (Operand.Register d) (record { kept = kept_refl m; answer = (refl, g) })
       go false =
           chain (emit_good (Instruction.Move (reg_of d) (reg_of (Register.Local r))) m (register_ready_small m d g, h, omega arith)) (λ p n e.
           done (Operand.Register d) (record { kept = e.kept; answer = (refl, register_ready_later d e.kept g) }))
 
-  named_good : (i symbol : ℕ) → Reaches t root i → node t i ≡ Node.Identifier symbol → length t.names ≤ 256 → (dest : Dest) (m : Made) → DestReady m dest →
+  named_good : (i symbol : ℕ) → Reaches t root i → node t i ≡ Node.Identifier symbol → length t.names ≤ 256 → (dest : Option Register) (m : Made) → DestReady m dest →
       Good t root (LoweredOperand m dest) (λ F. lower_name t i (lookup t.names (length t.names) symbol) dest) m
   unfolding lower_name
   named_good i symbol reached e few dest m g = go (lookup t.names (length t.names) symbol) refl
     where
-      go : (f : Found) → lookup t.names (length t.names) symbol ≡ f → Good t root (LoweredOperand m dest) (λ F. lower_name t i f dest) m
-      go (Found.At r) q =
+      go : (f : Result Register Refusal) → lookup t.names (length t.names) symbol ≡ f → Good t root (LoweredOperand m dest) (λ F. lower_name t i f dest) m
+      go (Ok r) q =
           let k : Last t.names (length t.names) symbol r = lookup_found t.names (length t.names) symbol r q in
           subst (λ x. Good t root (LoweredOperand m dest) (λ F. moved t x dest) m) (sym k.local) (moved_good k.index (lt_of_lt_of_le k.in_range few) dest m g)
-      go (Found.Refused refusal) q =
+      go (Err refusal) q =
           let k : Undeclared t.names (length t.names) symbol refusal = lookup_refused t.names (length t.names) symbol refusal q in
           subst (λ x. Good t root (LoweredOperand m dest) (λ F y. stops (error x i (span_start t i) (span_end t i)) y) m) (sym k.reason)
           (stopped (error Refusal.Undeclared i (span_start t i) (span_end t i)) (Own.undeclared reached e k.none))
 
   -- ---- by walks on the children that run
-  module _ (E : GiveBack → ℕ → Dest → Walk Operand) (P : ℕ → Type 0) (reach : (i : ℕ) → P i → Reaches t root i)
-      (good : (i : ℕ) → P i → (dest : Dest) (m : Made) → Sound (registers_of m) → DestReady m dest → Good t root (LoweredOperand m dest) (λ F. E F i dest) m) where
-    child_good : (i : ℕ) → P i → (dest : Dest) (m : Made) → Sound (registers_of m) → DestReady m dest → Good t root (Settled m dest) (λ F. lower_materializing (E F i) dest) m
+  module _ (E : GiveBack → ℕ → Option Register → Walk Operand) (P : ℕ → Type 0) (reach : (i : ℕ) → P i → Reaches t root i)
+      (good : (i : ℕ) → P i → (dest : Option Register) (m : Made) → Sound (registers_of m) → DestReady m dest → Good t root (LoweredOperand m dest) (λ F. E F i dest) m) where
+    child_good : (i : ℕ) → P i → (dest : Option Register) (m : Made) → Sound (registers_of m) → DestReady m dest → Good t root (Settled m dest) (λ F. lower_materializing (E F i) dest) m
     child_good i p dest m s g = materializing_good (λ F. E F i) dest m g (good i p dest m s g)
 
-    binary_good : (op : BinaryOp) (left right : ℕ) → P left → P right → {m m0 m1 m2 : Made} {dest : Dest} (d : Register) (x y : Source) → Settled m dest d m0 →
-        Kept m0 m1 → Kept m1 m2 → OperandStands m0 Dest.Any m1 x → OperandStands m1 Dest.Any m2 y → Sound (registers_of m) →
+    binary_good : (op : BinaryOp) (left right : ℕ) → P left → P right → {m m0 m1 m2 : Made} {dest : Option Register} (d : Register) (x y : Source) → Settled m dest d m0 →
+        Kept m0 m1 → Kept m1 m2 → OperandStands m0 None m1 x → OperandStands m1 None m2 y → Sound (registers_of m) →
         Good t root (LoweredOperand m dest) (λ F. binary_sources F t (E F) op left right d x y) m2
     unfolding binary_sources
     binary_good op left right pl pr {m} {m0} {m1} {m2} d (constant a) (constant b) s k1 k2 ha hb sound =
         let k02 : Kept m0 m2 = kept_trans k1 k2 in
         let s2 : Sound (registers_of m2) = k02.sound (s.kept.sound sound) in
-        chain (child_good left pl Dest.Any m2 s2 tt) (λ src1 m3 a1.
-        chain (child_good right pr Dest.Any m3 (a1.kept.sound s2) tt) (λ src2 m4 a2.
+        chain (child_good left pl None m2 s2 tt) (λ src1 m3 a1.
+        chain (child_good right pr None m3 (a1.kept.sound s2) tt) (λ src2 m4 a2.
         let k24 : Kept m2 m4 = kept_trans a1.kept a2.kept in
         two_good (binary_rr op (reg_of d) (reg_of src1) (reg_of src2)) d src1 src2 s (kept_trans k02 a1.kept) (not_held_before src1 k02 a1.spot) a1.ready
         a2.kept a2.spot a2.ready sound
@@ -239,12 +237,12 @@ module _ (t : Tree) (root : ℕ) where
     unfolding lower_arguments
     arguments_good i reached e few p zero k h m s = done tt (kept_refl m)
     arguments_good i {start = start} reached e few p (suc n) k h m s =
-        chain (child_good (get_or t.list (start + k) 0) (p k (omega arith)) (Dest.To (Register.Local k)) m s (omega arith)) (λ r m1 a.
+        chain (child_good (get_or t.list (start + k) 0) (p k (omega arith)) (Some (Register.Local k)) m s (omega arith)) (λ r m1 a.
         chain (mark_good i m1 reached e) (λ q m2 b.
         let k2 : Kept m m2 = kept_trans a.kept b.kept in
         relax (arguments_good i reached e few p n (suc k) (omega arith) m2 (k2.sound s)) (λ u o c. kept_trans k2 c)))
 
-    named_entry : {m m1 : Made} (d : Register) (key : ℕ) (v : Source) → RegisterReady m1 d → key < constants_of m1 → Kept m m1 → OperandStands m Dest.Any m1 v →
+    named_entry : {m m1 : Made} (d : Register) (key : ℕ) (v : Source) → RegisterReady m1 d → key < constants_of m1 → Kept m m1 → OperandStands m None m1 v →
         Good t root (λ u o. Kept m o) (λ F. store_named t (E F) d key v) m1
     unfolding store_named words_of
     named_entry {m} {m1} d key (constant v) r h k a =
@@ -254,7 +252,7 @@ module _ (t : Tree) (root : ℕ) where
     named_entry {m} {m1} d key (register v) r h k a =
         relax (emit_good (Instruction.SetPropertyKR (reg_of d) key (reg_of v)) m1 (register_ready_small m1 d r, h, register_ready_small m1 v a.1)) (λ p o e. kept_trans k e.kept)
 
-    keyed_entry : {m m1 m2 : Made} (d : Register) (x y : Source) → RegisterReady m2 d → Kept m m1 → Kept m1 m2 → OperandStands m Dest.Any m1 x → OperandStands m1 Dest.Any m2 y →
+    keyed_entry : {m m1 m2 : Made} (d : Register) (x y : Source) → RegisterReady m2 d → Kept m m1 → Kept m1 m2 → OperandStands m None m1 x → OperandStands m1 None m2 y →
         Good t root (λ u o. Kept m o) (λ F. store_keyed t (E F) d x y) m2
     unfolding store_keyed words_of
     keyed_entry {m} {m1} {m2} d (register key) (register v) r k1 k2 a b =
@@ -275,7 +273,7 @@ module _ (t : Tree) (root : ℕ) where
         (λ p o e. kept_trans k1 (kept_trans k2 (kept_trans q.kept (kept_trans w.kept e.kept))))))
 
     -- entry k of the map at node i
-    name_owned : (key name : ℕ) → Reaches t root key → name_of (node t key) ≡ some name → Owned t root (Operand.String name)
+    name_owned : (key name : ℕ) → Reaches t root key → name_of (node t key) ≡ Some name → Owned t root (Operand.String name)
     name_owned key name reached e = record { owner = key; reached = reached; its = name_constant (node t key) name e }
 
     entry_good : (i : ℕ) {start count : ℕ} (k : ℕ) → Reaches t root i → node t i ≡ Node.Map start count → k < count →
@@ -293,24 +291,24 @@ module _ (t : Tree) (root : ℕ) where
         value = get_or t.list (start + 2 * k + 1) 0
 
         go : (o : Option ℕ) → name_of (node t key) ≡ o → (b : Bool) → eqb value absent ≡ b → Good t root (λ u o. Kept m o) (λ F. lower_entry t (E F) d key value o) m
-        go (some name) q true z =
+        go (Some name) q true z =
             rw z
-            (chain (child_good key pk Dest.Any m s tt) (λ src m1 a.
+            (chain (child_good key pk None m s tt) (λ src m1 a.
             chain (store_good (Operand.String name) m1 (name_owned key name (reach key pk) q)) (λ k m2 b.
             relax (emit_good (Instruction.SetPropertyKR (reg_of d) k (reg_of src)) m2
             (register_ready_small m d r, b.inside, register_ready_small m1 src a.ready))
             (λ p o e. kept_trans a.kept (kept_trans b.kept e.kept)))))
-        go (some name) q false z =
+        go (Some name) q false z =
             rw z
-            (chain (good value (pv (eqb-false value absent z)) Dest.Any m s tt) (λ src m1 a.
+            (chain (good value (pv (eqb-false value absent z)) None m s tt) (λ src m1 a.
             chain (store_good (Operand.String name) m1 (name_owned key name (reach key pk) q)) (λ k m2 b.
             let k2 : Kept m m2 = kept_trans a.kept b.kept in
-            named_entry d k (source src) (register_ready_later d k2 r) b.inside k2 (operand_later m Dest.Any (source src) b.kept a.answer))))
-        go none q true z = rw z (stopped (error Refusal.Key key (span_start t key) (span_end t key)) (Own.no_value k reached e h q (eqb-true value absent z)))
-        go none q false z =
+            named_entry d k (source src) (register_ready_later d k2 r) b.inside k2 (operand_later m None (source src) b.kept a.answer))))
+        go None q true z = rw z (stopped (error Refusal.Key key (span_start t key) (span_end t key)) (Own.no_value k reached e h q (eqb-true value absent z)))
+        go None q false z =
             rw z
-            (chain (good key pk Dest.Any m s tt) (λ x m1 a.
-            chain (good value (pv (eqb-false value absent z)) Dest.Any m1 (a.kept.sound s) tt) (λ y m2 b.
+            (chain (good key pk None m s tt) (λ x m1 a.
+            chain (good value (pv (eqb-false value absent z)) None m1 (a.kept.sound s) tt) (λ y m2 b.
             keyed_entry d (source x) (source y) (register_ready_later d (kept_trans a.kept b.kept) r) a.kept b.kept a.answer b.answer)))
 
     -- n entries of the map at node i, from entry k on
@@ -326,38 +324,38 @@ module _ (t : Tree) (root : ℕ) where
         relax (entries_good i reached e pk pv d n (suc k) (omega arith) m1 (k1.sound s) (register_ready_later d k1 r)) (λ u o c. kept_trans k1 c))
 
     else_good : (i c a branch : ℕ) → Reaches t root i → node t i ≡ Node.If c a branch → (branch ≢ absent → P branch) → (d : Register) (m : Made) →
-        Sound (registers_of m) → RegisterReady m d → Good t root (Settled m (Dest.To d)) (λ F. lower_else t (E F) i branch d) m
+        Sound (registers_of m) → RegisterReady m d → Good t root (Settled m (Some d)) (λ F. lower_else t (E F) i branch d) m
     unfolding lower_else
     else_good i c a branch reached e p d m s r = go (eqb branch absent) refl
       where
         go : (b : Bool) → eqb branch absent ≡ b →
-            Good t root (Settled m (Dest.To d)) (λ F. cond b (λ y. stops (error Refusal.Else i (span_start t i) (span_end t i)) y) (lower_materializing (E F branch) (Dest.To d))) m
+            Good t root (Settled m (Some d)) (λ F. cond b (λ y. stops (error Refusal.Else i (span_start t i) (span_end t i)) y) (lower_materializing (E F branch) (Some d))) m
         go true z = stopped (error Refusal.Else i (span_start t i) (span_end t i)) (Own.without_else reached (e ∙ ap (λ x. Node.If c a x) (eqb-true branch absent z)))
-        go false z = child_good branch (p (eqb-false branch absent z)) (Dest.To d) m s r
+        go false z = child_good branch (p (eqb-false branch absent z)) (Some d) m s r
 
     tail_good : (i tail : ℕ) → Reaches t root i → node t i ≡ Node.Block tail → (tail ≢ absent → P tail) → (d : Register) (m : Made) →
-        Sound (registers_of m) → RegisterReady m d → Good t root (Settled m (Dest.To d)) (λ F. lower_tail t (E F) tail d) m
+        Sound (registers_of m) → RegisterReady m d → Good t root (Settled m (Some d)) (λ F. lower_tail t (E F) tail d) m
     unfolding lower_tail constant_of_node
     tail_good i tail reached e p d m s r = go (eqb tail absent) refl
       where
         go : (b : Bool) → eqb tail absent ≡ b →
-            Good t root (Settled m (Dest.To d)) (λ F. cond b (load_constant Operand.Nil (Dest.To d)) (lower_materializing (E F tail) (Dest.To d))) m
-        go true z = load_good Operand.Nil (record { owner = i; reached = reached; its = ap constant_of_node e ∙ rw z }) m (Dest.To d) r
-        go false z = child_good tail (p (eqb-false tail absent z)) (Dest.To d) m s r
+            Good t root (Settled m (Some d)) (λ F. cond b (load_constant Operand.Nil (Some d)) (lower_materializing (E F tail) (Some d))) m
+        go true z = load_good Operand.Nil (record { owner = i; reached = reached; its = ap constant_of_node e ∙ rw z }) m (Some d) r
+        go false z = child_good tail (p (eqb-false tail absent z)) (Some d) m s r
 
     -- and, or: by the jump between
     logical_good : (jump : ℕ → Instruction) → ((top a : ℕ) → a < 256 → Narrow top (words_of (jump a))) → ((a : ℕ) → JumpKind (get_or (words_of (jump a)) 0 0)) →
-        (left right : ℕ) → P left → P right → (dest : Dest) (m : Made) → Sound (registers_of m) → DestReady m dest →
+        (left right : ℕ) → P left → P right → (dest : Option Register) (m : Made) → Sound (registers_of m) → DestReady m dest →
         Good t root (LoweredOperand m dest)
-        (λ F. destination dest >>= (λ d. lower_materializing (E F left) (Dest.To d) >>= (λ src. emit (jump (reg_of src)) >>= (λ j.
-        lower_materializing (E F right) (Dest.To d) >> (patch_to_next j >> ret (Operand.Register d)))))) m
+        (λ F. destination dest >>= (λ d. lower_materializing (E F left) (Some d) >>= (λ src. emit (jump (reg_of src)) >>= (λ j.
+        lower_materializing (E F right) (Some d) >> (patch_to_next j >> ret (Operand.Register d)))))) m
     logical_good jump fits jumps left right pl pr dest m s g =
         chain (destination_good m dest g) (λ d m0 a.
         let s0 : Sound (registers_of m0) = a.kept.sound s in
-        chain (child_good left pl (Dest.To d) m0 s0 a.ready) (λ src m1 b.
+        chain (child_good left pl (Some d) m0 s0 a.ready) (λ src m1 b.
         chain (emit_good (jump (reg_of src)) m1 (fits (constants_of m1) (reg_of src) (register_ready_small m1 src b.ready))) (λ j m2 e.
         let k2 : Kept m0 m2 = kept_trans b.kept e.kept in
-        chain (child_good right pr (Dest.To d) m2 (k2.sound s0) (register_ready_later d k2 a.ready)) (λ r m3 c.
+        chain (child_good right pr (Some d) m2 (k2.sound s0) (register_ready_later d k2 a.ready)) (λ r m3 c.
         let kind : kind_at m3 j ≡ get_or (words_of (jump (reg_of src))) 0 0 = c.kept.kinds j e.inside ∙ e.kind in
         chain (patch_good j m3 (lt_of_lt_of_le e.inside c.kept.more) (rw kind (jumps (reg_of src)))) (λ u m4 q.
         let k4 : Kept m0 m4 = kept_trans k2 (kept_trans c.kept q.kept) in
@@ -365,29 +363,29 @@ module _ (t : Tree) (root : ℕ) where
 
     -- ---- a node
     module _ (J : GiveBack → ℕ → Walk ℕ) (jumps : (i : ℕ) → P i → (m : Made) → Sound (registers_of m) → Good t root (JumpMade m) (λ F. J F i) m) (few : length t.names ≤ 256) where
-      literal : {m : Made} {dest : Dest} (i : ℕ) (x c : Operand) → Reaches t root i → source x ≡ constant c → constant_of_node (node t i) ≡ some c → LoweredOperand m dest x m
+      literal : {m : Made} {dest : Option Register} (i : ℕ) (x c : Operand) → Reaches t root i → source x ≡ constant c → constant_of_node (node t i) ≡ Some c → LoweredOperand m dest x m
       literal {m} {dest} i x c reached e q = record { kept = kept_refl m; answer = subst (λ y. OperandStands m dest m y) (sym e) (record { owner = i; reached = reached; its = q }) }
 
       -- a destination, one operand and an instruction on it
       single_good : (f : ℕ → ℕ → Instruction) → ((top d a : ℕ) → d < 256 → a < 256 → Narrow top (words_of (f d a))) → (x : ℕ) → P x →
-          (dest : Dest) (m : Made) → Sound (registers_of m) → DestReady m dest →
+          (dest : Option Register) (m : Made) → Sound (registers_of m) → DestReady m dest →
           Good t root (LoweredOperand m dest)
-          (λ F. destination dest >>= (λ d. lower_materializing (E F x) Dest.Any >>= (λ src. emit (f (reg_of d) (reg_of src)) >> (F src >> ret (Operand.Register d))))) m
+          (λ F. destination dest >>= (λ d. lower_materializing (E F x) None >>= (λ src. emit (f (reg_of d) (reg_of src)) >> (F src >> ret (Operand.Register d))))) m
       single_good f fits x p dest m s g =
           chain (destination_good m dest g) (λ d m0 a.
-          chain (child_good x p Dest.Any m0 (a.kept.sound s) tt) (λ src m1 b.
+          chain (child_good x p None m0 (a.kept.sound s) tt) (λ src m1 b.
           one_good (f (reg_of d) (reg_of src)) d src a b.kept b.spot b.ready (kept_refl m1) s
           (fits (constants_of m1) (reg_of d) (reg_of src) (register_ready_small m0 d a.ready) (register_ready_small m1 src b.ready))))
 
       if_good : (i c a branch : ℕ) → Reaches t root i → node t i ≡ Node.If c a branch → P c → P a → (branch ≢ absent → P branch) →
-          (dest : Dest) (m : Made) → Sound (registers_of m) → DestReady m dest → Good t root (LoweredOperand m dest) (λ F. lower_node F t (E F) (J F) i (Node.If c a branch) dest) m
+          (dest : Option Register) (m : Made) → Sound (registers_of m) → DestReady m dest → Good t root (LoweredOperand m dest) (λ F. lower_node F t (E F) (J F) i (Node.If c a branch) dest) m
       unfolding lower_node words_of
       if_good i c a branch reached e pc pa pb dest m s g =
           chain (jumps c pc m s) (λ j m1 jm.
           let s1 : Sound (registers_of m1) = jm.kept.sound s in
           chain (destination_good m1 dest (dest_ready_later dest jm.kept g)) (λ d m2 b.
           let s2 : Sound (registers_of m2) = b.kept.sound s1 in
-          chain (child_good a pa (Dest.To d) m2 s2 b.ready) (λ r m3 q.
+          chain (child_good a pa (Some d) m2 s2 b.ready) (λ r m3 q.
           chain (emit_good (Instruction.Jump 0) m3 (omega arith, omega arith, omega arith)) (λ end m4 h.
           let k24 : Kept m2 m4 = kept_trans q.kept h.kept in
           let k14 : Kept m1 m4 = kept_trans b.kept k24 in
@@ -406,7 +404,7 @@ module _ (t : Tree) (root : ℕ) where
           })))))))))
 
       call_good : (i callee start count : ℕ) → Reaches t root i → node t i ≡ Node.FunctionCall callee start count → count ≤ 255 → P callee →
-          ((k : ℕ) → k < count → P (get_or t.list (start + k) 0)) → (dest : Dest) (m : Made) → Sound (registers_of m) → DestReady m dest →
+          ((k : ℕ) → k < count → P (get_or t.list (start + k) 0)) → (dest : Option Register) (m : Made) → Sound (registers_of m) → DestReady m dest →
           Good t root (LoweredOperand m dest) (λ F. lower_node F t (E F) (J F) i (Node.FunctionCall callee start count) dest) m
       unfolding lower_node words_of
       call_good i callee start count reached e small pc pa dest m s g =
@@ -415,7 +413,7 @@ module _ (t : Tree) (root : ℕ) where
           (λ x n l. record { kept = kept_trans k1 l.kept; answer = operand_before n dest (source x) k1 l.answer }))
 
       pub node_good : (i : ℕ) (n : Node) → Reaches t root i → node t i ≡ n → InRange (length t.list) n → ((c : ℕ) → Named c (children t.list n) → P c) →
-          (dest : Dest) (m : Made) → Sound (registers_of m) → DestReady m dest → Good t root (LoweredOperand m dest) (λ F. lower_node F t (E F) (J F) i n dest) m
+          (dest : Option Register) (m : Made) → Sound (registers_of m) → DestReady m dest → Good t root (LoweredOperand m dest) (λ F. lower_node F t (E F) (J F) i n dest) m
       unfolding lower_node children constant_of_node source words_of
       node_good i (Node.Number low high) reached e f p dest m s g = done _ (literal i _ _ reached refl (ap constant_of_node e))
       node_good i (Node.String symbol) reached e f p dest m s g = done _ (literal i _ _ reached refl (ap constant_of_node e))
@@ -425,8 +423,8 @@ module _ (t : Tree) (root : ℕ) where
       node_good i (Node.Binary op left right) reached e f p dest m s g =
           chain (destination_good m dest g) (λ d m0 a.
           let s0 : Sound (registers_of m0) = a.kept.sound s in
-          chain (good left (p left first) Dest.Any m0 s0 tt) (λ x m1 b.
-          chain (good right (p right (later first)) Dest.Any m1 (b.kept.sound s0) tt) (λ y m2 c.
+          chain (good left (p left first) None m0 s0 tt) (λ x m1 b.
+          chain (good right (p right (later first)) None m1 (b.kept.sound s0) tt) (λ y m2 c.
           binary_good op left right (p left first) (p right (later first)) d (source x) (source y) a b.kept c.kept b.answer c.answer s)))
       node_good i (Node.Unary op x) reached e f p dest m s g = single_good (unary op) (λ top d a h k. narrow_unary top d a a h k op) x (p x first) dest m s g
       node_good i (Node.LogicalNot x) reached e f p dest m s g = single_good (λ d a. Instruction.Not d a) (λ top d a h k. (h, k, omega arith)) x (p x first) dest m s g
@@ -451,7 +449,7 @@ module _ (t : Tree) (root : ℕ) where
               rw (get_or-take, get_or-drop) at (named_at (take count (drop start t.list)) k (omega arith))
       node_good i (Node.PropertyAccess x property) reached e f p dest m s g =
           chain (destination_good m dest g) (λ d m0 a.
-          chain (child_good x (p x first) Dest.Any m0 (a.kept.sound s) tt) (λ src m1 b.
+          chain (child_good x (p x first) None m0 (a.kept.sound s) tt) (λ src m1 b.
           chain (store_good (Operand.String property) m1 (record { owner = i; reached = reached; its = ap constant_of_node e })) (λ k m2 q.
           one_good (Instruction.GetPropertyK (reg_of d) (reg_of src) k) d src a b.kept b.spot b.ready q.kept s
           (register_ready_small m0 d a.ready, register_ready_small m1 src b.ready, q.inside))))
@@ -484,16 +482,16 @@ module _ (t : Tree) (root : ℕ) where
               (named_value (take (2 * count) (drop start t.list)) k (omega (arith, size)) (λ w. z (sym same ∙ w)))
 
     -- ---- a condition
-    tested_good : (sense : Bool) (own : GiveBack → Dest → Walk Operand) {m₀ : Made} (m : Made) → Kept m₀ m → Good t root (LoweredOperand m Dest.Any) (λ F. own F Dest.Any) m →
+    tested_good : (sense : Bool) (own : GiveBack → Option Register → Walk Operand) {m₀ : Made} (m : Made) → Kept m₀ m → Good t root (LoweredOperand m None) (λ F. own F None) m →
         Good t root (JumpMade m₀) (λ F. test t (E F) sense (own F)) m
     unfolding test
     tested_good sense own {m₀} m k h =
-        chain (materializing_good own Dest.Any m tt h) (λ src n a.
+        chain (materializing_good own None m tt h) (λ src n a.
         relax (emit_good (jump_if sense (reg_of src)) n (narrow_jump_if (constants_of n) (reg_of src) (register_ready_small n src a.ready) sense))
         (λ j o e. record { kept = kept_trans k (kept_trans a.kept e.kept); inside = e.inside; kind = rw e.kind (kind_jump_if (reg_of src) sense) }))
 
-    fused_sources_lem : (sense : Bool) (own : GiveBack → Dest → Walk Operand) (c : Comparison) (x y : Source) {m₀ m1 m2 : Made} → Kept m₀ m1 → Kept m1 m2 →
-        OperandStands m₀ Dest.Any m1 x → OperandStands m1 Dest.Any m2 y → Good t root (LoweredOperand m2 Dest.Any) (λ F. own F Dest.Any) m2 →
+    fused_sources_lem : (sense : Bool) (own : GiveBack → Option Register → Walk Operand) (c : Comparison) (x y : Source) {m₀ m1 m2 : Made} → Kept m₀ m1 → Kept m1 m2 →
+        OperandStands m₀ None m1 x → OperandStands m1 None m2 y → Good t root (LoweredOperand m2 None) (λ F. own F None) m2 →
         Good t root (JumpMade m₀) (λ F. fused_sources t (E F) sense (own F) c x y) m2
     unfolding fused_sources
     fused_sources_lem sense own c (register a) (register b) {m₀} {m1} {m2} k1 k2 ha hb h =
@@ -511,15 +509,15 @@ module _ (t : Tree) (root : ℕ) where
     fused_sources_lem sense own c (constant a) (constant b) {m2 = m2} k1 k2 ha hb h = tested_good sense own m2 (kept_trans k1 k2) h
 
     -- own: the condition's own lowering
-    module _ (sense : Bool) (own : GiveBack → Dest → Walk Operand) (owns : (m : Made) → Sound (registers_of m) → Good t root (LoweredOperand m Dest.Any) (λ F. own F Dest.Any) m) where
+    module _ (sense : Bool) (own : GiveBack → Option Register → Walk Operand) (owns : (m : Made) → Sound (registers_of m) → Good t root (LoweredOperand m None) (λ F. own F None) m) where
       fused_good : (c : Option Comparison) (left right : ℕ) → P left → P right → (m : Made) → Sound (registers_of m) →
           Good t root (JumpMade m) (λ F. fuse t (E F) sense (own F) c left right) m
       unfolding fuse
-      fused_good none left right pl pr m s = tested_good sense own m (kept_refl m) (owns m s)
-      fused_good (some c) left right pl pr m s =
-          chain (good left pl Dest.Any m s tt) (λ x m1 a.
+      fused_good None left right pl pr m s = tested_good sense own m (kept_refl m) (owns m s)
+      fused_good (Some c) left right pl pr m s =
+          chain (good left pl None m s tt) (λ x m1 a.
           let s1 : Sound (registers_of m1) = a.kept.sound s in
-          chain (good right pr Dest.Any m1 s1 tt) (λ y m2 b.
+          chain (good right pr None m1 s1 tt) (λ y m2 b.
           fused_sources_lem sense own c (source x) (source y) a.kept b.kept a.answer b.answer (owns m2 (b.kept.sound s1))))
 
       pub jump_good : (n : Node) → ((c : ℕ) → Named c (children t.list n) → P c) → (m : Made) → Sound (registers_of m) →

@@ -1,6 +1,8 @@
 -- The pool over a run of lowering, from any starting pool: nothing pooled changes, no two constants are the same if none were before, and as many
 -- constants are added as there are distinct nodes for them that the root reaches. (A constant's index is the first place with its words: the steps
 -- `finds` and `pools` of a run.) Assumes nothing.
+use Rattle.std.specs.Prelude.{Some, Result, Ok, Err}
+use Rattle.diagnostics.specs.declared.Refusal.{Refusal}
 use Prim.Native.Nat.{ℕ, zero, suc, ◌+◌, ◌-◌, ◌≤◌, ◌<◌}
 use native.Mathlib.Omega.{arith}
 use native.Mathlib.Decide.{dec_lt, ℕ_discrete}
@@ -8,12 +10,10 @@ use native.Mathlib.Nat.{le_refl, le_trans, ne_of_lt}
 use mathlib.Core.Path.{◌≡◌, refl, sym, ap, ◌∙◌, subst}
 use mathlib.Core.Logic.{◌≢◌, ◌⊎◌, inl, inr}
 use mathlib.Core.Bool.{Bool, true, false, cond}
-use mathlib.Core.Option.{some}
 use mathlib.Core.List.{List}
 use lib.Dec.{eqb}
 use lib.ListN.{length, get_or}
 use borrow.Author.Tests.{eqb-true, eqb-false}
-use Rattle.diagnostics.specs.declared.Place.{Place}
 use Rattle.words.specs.Records.{Buffer, record_at, put_record, capacity}
 use Rattle.words.proofs.Records.{record_same, record_other}
 use Rattle.runtime.specs.declared.operand.Operand.{Operand}
@@ -42,18 +42,18 @@ constant_first c m n p e = go after.answer.place refl e
     after : Buffer
     after = store_constant m.constants (constants_of m) c
 
-    go : (place : Place) → after.answer.place ≡ place → placed place (with_constants after.words after.answer.count m) ≡ ends p n →
+    go : (place : Result ℕ Refusal) → after.answer.place ≡ place → placed place (with_constants after.words after.answer.count m) ≡ ends p n →
         (p < constants_of n) × (constant_words_at n p ≡ constant_words c) × ((q : ℕ) → q < p → q < capacity constant_width n.constants → constant_words_at n q ≢ constant_words c)
-    go (Place.At k) q z =
+    go (Ok k) q z =
         let same : k ≡ p = cc in
         let there : with_constants after.words after.answer.count m ≡ n = cc in
         let s = store_at m.constants (constants_of m) c k q in
         subst (λ x. (p < constants_of x) × (constant_words_at x p ≡ constant_words c) × ((q : ℕ) → q < p → q < capacity constant_width x.constants → constant_words_at x q ≢ constant_words c)) there
         (subst (λ j. (j < after.answer.count) × (record_at constant_width after.words j ≡ constant_words c) × ((q : ℕ) → q < j → q < capacity constant_width after.words → record_at constant_width after.words q ≢ constant_words c)) same
         (s.counted, s.holds, s.first))
-    go (Place.Refused r) q z = let w : ◌≡◌ {A = ℕ} 0 1 = cc in absurd (omega arith)
+    go (Err r) q z = let w : ◌≡◌ {A = ℕ} 0 1 = cc in absurd (omega arith)
 
-one_constant : {c d : Operand} → some c ≡ some d → c ≡ d
+one_constant : {c d : Operand} → Some c ≡ Some d → c ≡ d
 one_constant e = cc
 
 module _ (t : Tree) (root : ℕ) where
@@ -62,7 +62,7 @@ module _ (t : Tree) (root : ℕ) where
     pub owner : ℕ
     pub reached : Reaches t root owner
     pub constant : Operand
-    pub its : constant_of_node (node t owner) ≡ some constant
+    pub its : constant_of_node (node t owner) ≡ Some constant
     pub words : ws ≡ constant_words constant
 
   -- the pool, from m to n
@@ -195,7 +195,7 @@ pigeons (suc n) (suc k) f below a = go (search f n (suc k)) (λ g x y. pigeons n
   where
     go : ((p : ℕ) × (p < suc k) × (f p ≡ n)) ⊎ ((p : ℕ) → p < suc k → f p ≢ n) →
         ((g : ℕ → ℕ) → ((p : ℕ) → p < k → g p < n) → Apart g k → k ≤ n) → (((p : ℕ) → p < suc k → f p < n) → suc k ≤ n) → suc k ≤ suc n
-    go (inr none) fewer same = let h = same (λ p l. let x = below p l in let y = none p l in omega arith) in omega arith
+    go (inr absent) fewer same = let h = same (λ p l. let x = below p l in let y = absent p l in omega arith) in omega arith
     go (inl (p, l, e)) fewer same =
         let h : k ≤ n = fewer (λ q. f (swap p k q)) small (λ x y h z. apart_either f (suc k) a (swap p k x) (swap p k y) (swap_in p k x (omega arith)).0 (swap_in p k y z).0 (swap_apart p k x y h z)) in
         omega arith

@@ -1,9 +1,9 @@
 -- Each law of the definition is false of the worked page with one wrong word or number: what it says can fail. Assumes nothing.
+use Rattle.std.specs.Prelude.{Some}
 use Prim.Native.Nat.{ℕ}
 use native.Mathlib.Omega.{arith}
 use mathlib.Core.Path.{◌≡◌, refl, sym, ap, ◌∙◌}
 use mathlib.Core.Bool.{cond, false≢true}
-use mathlib.Core.Option.{some}
 use mathlib.Core.List.{[], ◌∷◌}
 use lib.ListN.{get_or, set, replicate}
 use lib.Ieee.{is_nan, eq, lt, le, of_bits, to_bits, nan_bits}
@@ -31,7 +31,7 @@ use Rattle.lowering.specs.Questions.{whole, question1, question2, question3, que
 use Rattle.lowering.specs.Steps.{with_registers, free_held, placed, registered, allocate_temp, free_temp, destination, emit, store, load_constant, put_offset, patch_to_next, mark, patch_argument, patch_marks, patch_arguments}
 use Rattle.lowering.specs.Tree.{tree_of, node, present, entry_nodes, children}
 use Rattle.lowering.specs.Walk.{Made, made, Outcome, ends, stops, Walk, bind, ◌>>◌, unnamed, made_of}
-use Rattle.lowering.specs.Result.{Lowered, lowered, begin, lower_root, lowered_of, lower_checked, lower}
+use Rattle.lowering.specs.Result.{Lowered, begin, lower_root, lowered_of, lower_checked, lower}
 use Rattle.lowering.specs.Frame.{Smallest}
 use Rattle.lowering.specs.Smallest.{before_register, SmallestFirst}
 use Rattle.lowering.specs.Meaning.{Evaluation, evaluates, fails, undefined, Named, first, later, Reaches, here, below}
@@ -207,25 +207,25 @@ smallest_refuted s k = false≢true (sym (all_free_lem 0) ∙ k.smaller_held 0 (
 -- ---- Pool: a constant is that of a node that the root reaches. Of x + y, whose nodes are names and an operator, nil is none.
 
 -- not x, not y, and not their sum
-x_nil : (k : ℕ) → Reaches sum_of_names 0 k → constant_of_node (node sum_of_names k) ≡ some Operand.Nil → ⊥
+x_nil : (k : ℕ) → Reaches sum_of_names 0 k → constant_of_node (node sum_of_names k) ≡ Some Operand.Nil → ⊥
 unfolding node_at node_word children constant_of_node
 x_nil k here e = let z : ◌≡◌ {A = ℕ} 0 1 = cc in omega arith
 x_nil k (below n r) e = elim n [ ]
 
-y_nil : (k : ℕ) → Reaches sum_of_names 1 k → constant_of_node (node sum_of_names k) ≡ some Operand.Nil → ⊥
+y_nil : (k : ℕ) → Reaches sum_of_names 1 k → constant_of_node (node sum_of_names k) ≡ Some Operand.Nil → ⊥
 unfolding node_at node_word children constant_of_node
 y_nil k here e = let z : ◌≡◌ {A = ℕ} 0 1 = cc in omega arith
 y_nil k (below n r) e = elim n [ ]
 
-right_nil : (i k : ℕ) → Named i (1 ∷ []) → Reaches sum_of_names i k → constant_of_node (node sum_of_names k) ≡ some Operand.Nil → ⊥
+right_nil : (i k : ℕ) → Named i (1 ∷ []) → Reaches sum_of_names i k → constant_of_node (node sum_of_names k) ≡ Some Operand.Nil → ⊥
 right_nil i k first r e = y_nil k r e
 right_nil i k (later n) r e = elim n [ ]
 
-operand_nil : (i k : ℕ) → Named i (0 ∷ 1 ∷ []) → Reaches sum_of_names i k → constant_of_node (node sum_of_names k) ≡ some Operand.Nil → ⊥
+operand_nil : (i k : ℕ) → Named i (0 ∷ 1 ∷ []) → Reaches sum_of_names i k → constant_of_node (node sum_of_names k) ≡ Some Operand.Nil → ⊥
 operand_nil i k first r e = x_nil k r e
 operand_nil i k (later n) r e = right_nil i k n r e
 
-sum_nil : (k : ℕ) → Reaches sum_of_names 2 k → constant_of_node (node sum_of_names k) ≡ some Operand.Nil → ⊥
+sum_nil : (k : ℕ) → Reaches sum_of_names 2 k → constant_of_node (node sum_of_names k) ≡ Some Operand.Nil → ⊥
 unfolding node_at node_word children constant_of_node
 sum_nil k here e = let z : ◌≡◌ {A = ℕ} 0 1 = cc in omega arith
 sum_nil k (below {j = i} n r) e = operand_nil i k n r e

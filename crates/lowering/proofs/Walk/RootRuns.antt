@@ -1,4 +1,5 @@
 -- Lowering a root, in each mode, is a run of good steps, its marks patched at the end. Assumes nothing.
+use Rattle.std.specs.Prelude.{None}
 use Prim.Native.Nat.{ℕ, zero, suc, ◌+◌, ◌*◌, ◌≤◌, ◌<◌}
 use native.Mathlib.Omega.{arith}
 use mathlib.Core.Path.{◌≡◌, refl, sym, subst}
@@ -11,7 +12,6 @@ use Rattle.environment.specs.Laws.{Sound}
 use Rattle.runtime.specs.declared.instruction.Instruction.{Instruction}
 use Rattle.runtime.specs.Operands.{reg_of}
 use Rattle.runtime.specs.Instruction.{instruction_width, words_of, has_destination}
-use Rattle.lowering.specs.declared.Dest.{Dest}
 use Rattle.lowering.specs.Tree.{Tree}
 use Rattle.lowering.specs.Checked.{Checked}
 use Rattle.lowering.specs.Walk.{Made, Outcome, ends, stops, Walk, error, made_of}
@@ -91,8 +91,8 @@ module _ (t : Tree) (root : ℕ) (checked : Checked t) (few : length t.names ≤
   root_good : (mode : ℕ) (m : Made) → Sound (registers_of m) → Marked m → Good t root (λ a n. Unit {0}) (λ F. lower_root F t mode root) m
   unfolding lower_root lower_expression lower_jump_if_false words_of
   root_good zero m s good =
-      chain (grown (materializing_good t root (λ F. expression_below F t (suc root) root) Dest.Any m tt
-      (expression_runs t root checked few (suc root) root (omega arith, here) Dest.Any m s tt))) (λ src m1 a.
+      chain (grown (materializing_good t root (λ F. expression_below F t (suc root) root) None m tt
+      (expression_runs t root checked few (suc root) root (omega arith, here) None m s tt))) (λ src m1 a.
       chain (grown (emit_good (Instruction.Return (reg_of src)) m1 (register_ready_small m1 src a.0.ready, omega arith, omega arith))) (λ p m2 b.
       chain (arguments_good m2 (b.1.marked (a.1.marked good))) (λ u m3 q. done 0 tt)))
   root_good (suc zero) m s good =

@@ -1,4 +1,6 @@
 -- Every run of lowering is made of good steps, in each mode and from anything made so far whose marks name instructions. Assumes nothing.
+use Rattle.std.specs.Prelude.{Option, None}
+use Rattle.environment.specs.declared.Register.{Register}
 use Prim.Native.Nat.{ℕ, zero, suc, ◌≤◌, ◌<◌}
 use native.Mathlib.Omega.{arith}
 use mathlib.Core.Path.{◌≡◌, refl}
@@ -8,7 +10,6 @@ use lib.Dec.{ltb}
 use lib.ListN.{length}
 use borrow.Author.Tests.{ltb-true}
 use Rattle.environment.specs.Laws.{Sound}
-use Rattle.lowering.specs.declared.Dest.{Dest}
 use Rattle.lowering.specs.Tree.{Tree, node, children}
 use Rattle.lowering.specs.Questions.{all_below, question7}
 use Rattle.lowering.specs.Checked.{Checked}
@@ -53,7 +54,7 @@ module _ (t : Tree) (root : ℕ) (checked : Checked t) (few : length t.names ≤
   mutual
     unfolding expression_below jump_below
 
-    pub expression_runs : (f i : ℕ) → Near f i → (dest : Dest) (m : Made) → Sound (registers_of m) → DestReady m dest →
+    pub expression_runs : (f i : ℕ) → Near f i → (dest : Option Register) (m : Made) → Sound (registers_of m) → DestReady m dest →
         Good t root (LoweredOperand t root m dest) (λ F. expression_below F t f i dest) m
     expression_runs zero i h dest m s g = absurd (omega (arith, h.0))
     expression_runs (suc f) i h dest m s g =
@@ -66,11 +67,11 @@ module _ (t : Tree) (root : ℕ) (checked : Checked t) (few : length t.names ≤
         jump_good t root (λ F. expression_below F t f) (Near f) (λ j n. n.1) (λ j n d o q z. expression_runs f j n d o q z) false
         (λ F d. lower_node F t (expression_below F t f) (jump_below F t f) i (node t i) d)
         (λ n q. node_good t root (λ F. expression_below F t f) (Near f) (λ j k. k.1) (λ j n d o q z. expression_runs f j n d o q z) (λ F. jump_below F t f) (λ j n o q. jump_runs f j n o q) few
-        i (node t i) h.1 refl (checked_fits checked i) (near_child h) Dest.Any n q tt)
+        i (node t i) h.1 refl (checked_fits checked i) (near_child h) None n q tt)
         (node t i) (near_child h) m s
 
   pub jump_true_runs : (m : Made) → Sound (registers_of m) → Good t root (JumpMade t root m) (λ F. lower_jump_if_true F t root) m
   unfolding lower_jump_if_true lower_expression
   jump_true_runs m s =
       jump_good t root (λ F i. expression_below F t (suc i) i) (λ i. Reaches t root i) (λ i r. r) (λ i r. expression_runs (suc i) i (omega arith, r)) true
-      (λ F. expression_below F t (suc root) root) (λ n q. expression_runs (suc root) root (omega arith, here) Dest.Any n q tt) (node t root) (λ c n. reaches_child here n) m s
+      (λ F. expression_below F t (suc root) root) (λ n q. expression_runs (suc root) root (omega arith, here) None n q tt) (node t root) (λ c n. reaches_child here n) m s

@@ -1,4 +1,5 @@
 -- How runs are made: each step of the walk runs, and a do-block runs if its parts do. Assumes nothing.
+use Rattle.std.specs.Prelude.{Option, Some, None, Result, Ok, Err}
 use Prim.Native.Nat.{ℕ, ◌+◌, ◌*◌, ◌-◌, ◌≤◌, ◌<◌}
 use native.Mathlib.Omega.{arith}
 use native.Mathlib.Decide.{dec_lt, ℕ_discrete}
@@ -8,18 +9,16 @@ use mathlib.Core.Logic.{◌≢◌, inl, inr}
 use mathlib.Core.Bool.{Bool, true, false, cond, ◌&&◌, true≢false}
 use mathlib.Core.List.{List, [], ◌∷◌}
 use lib.Dec.{ltb}
-use lib.ListN.{length, get_or, set}
+use lib.ListN.{length, get_or}
 use lib.Seq.{get_or-set_other}
 use borrow.Author.Tests.{ltb-true, ltb-false, eq-eqb, ne_eqb}
 use Rattle.diagnostics.specs.declared.Refusal.{Refusal}
-use Rattle.diagnostics.specs.declared.Place.{Place}
 use Rattle.diagnostics.specs.declared.Error.{Error}
 use Rattle.words.specs.Records.{buffer, append, capacity, record_at, put_record, position, max_count, First}
 use Rattle.words.proofs.Records.{record_same, record_other, record_word, append_room, append_full, append_limit}
 use Rattle.words.proofs.Search.{position_first, is_record, record_is}
 use Rattle.environment.specs.declared.Register.{Register}
 use Rattle.environment.specs.declared.RegisterSet.{RegisterSet}
-use Rattle.environment.specs.declared.Found.{Found}
 use Rattle.environment.specs.Registers.{held, given_back}
 use Rattle.environment.specs.Environment.{allocated, freed}
 use Rattle.environment.specs.Laws.{Sound, Gives, Refuses}
@@ -33,9 +32,8 @@ use Rattle.runtime.specs.Function.{emit_instruction, max_instructions}
 use Rattle.runtime.specs.Pool.{Unpooled}
 use Rattle.runtime.proofs.Pool.{store_pooled, store_new}
 use Rattle.syntax.specs.declared.ast.Node.{Node}
-use Rattle.lowering.specs.declared.Dest.{Dest}
 use Rattle.lowering.specs.Tree.{Tree, node, span_start, span_end}
-use Rattle.lowering.specs.Walk.{Made, Outcome, ends, stops, Walk, bind, ◌>>=◌, ◌>>◌, ret, error, unnamed}
+use Rattle.lowering.specs.Walk.{Made, Outcome, ends, stops, Walk, bind, ◌>>=◌, ret, error, unnamed}
 use Rattle.lowering.specs.Steps.{placed, registered, with_registers, with_code, with_constants, with_marks, put_offset, allocate_temp, destination, free_temp, free_held, emit, store, patch_to_next, mark}
 use Rattle.lowering.specs.Meaning.{Reaches}
 use Rattle.lowering.specs.Fields.{Narrow}
@@ -152,24 +150,24 @@ differ m (Register.Local a) (Register.Temp b) h f = tt
 differ m (Register.Local a) (Register.Local b) h f = tt
 
 -- where an answer may stand: in a register that was not held, or in the one that was asked for
-abbrev pub MayStand : Made → Dest → Register → Type 0
-MayStand m Dest.Any r = NotHeld m r
-MayStand m (Dest.To d) r = r ≡ d
+abbrev pub MayStand : Made → Option Register → Register → Type 0
+MayStand m None r = NotHeld m r
+MayStand m (Some d) r = r ≡ d
 
-abbrev pub DestReady : Made → Dest → Type 0
-DestReady m Dest.Any = Unit {0}
-DestReady m (Dest.To d) = RegisterReady m d
+abbrev pub DestReady : Made → Option Register → Type 0
+DestReady m None = Unit {0}
+DestReady m (Some d) = RegisterReady m d
 
-pub dest_ready_later : {m n : Made} (dest : Dest) → Kept m n → DestReady m dest → DestReady n dest
-dest_ready_later Dest.Any k h = tt
-dest_ready_later (Dest.To d) k h = register_ready_later d k h
+pub dest_ready_later : {m n : Made} (dest : Option Register) → Kept m n → DestReady m dest → DestReady n dest
+dest_ready_later None k h = tt
+dest_ready_later (Some d) k h = register_ready_later d k h
 
-pub may_stand_before : {m n : Made} (dest : Dest) (r : Register) → Kept m n → MayStand n dest r → MayStand m dest r
-may_stand_before Dest.Any r k h = not_held_before r k h
-may_stand_before (Dest.To d) r k h = h
+pub may_stand_before : {m n : Made} (dest : Option Register) (r : Register) → Kept m n → MayStand n dest r → MayStand m dest r
+may_stand_before None r k h = not_held_before r k h
+may_stand_before (Some d) r k h = h
 
 -- a register that holds an answer
-pub record Settled (m : Made) (dest : Dest) (r : Register) (n : Made) : Type 0 where
+pub record Settled (m : Made) (dest : Option Register) (r : Register) (n : Made) : Type 0 where
   pub kept : Kept m n
   pub spot : MayStand m dest r
   pub ready : RegisterReady n r
@@ -210,18 +208,18 @@ offset_past kind j = go (ltb kind 41) (ltb kind 42) (ltb kind 44) (ltb kind 54) 
     go false false false false e f = absurd (omega (arith, ltb-false kind 54 f, j.high))
 
 module _ {t : Tree} {root : ℕ} where
-  take_good : (m : Made) → Good t root (Settled m Dest.Any) (λ F. allocate_temp) m
+  take_good : (m : Made) → Good t root (Settled m None) (λ F. allocate_temp) m
   unfolding allocate_temp registered
   take_good m = go (allocated Register.Temp (registers_of m)).register refl
     where
-      result : (f : Found) → (allocated Register.Temp (registers_of m)).register ≡ f → allocate_temp m ≡ registered f (with_registers (allocated Register.Temp (registers_of m)).set m)
+      result : (f : Result Register Refusal) → (allocated Register.Temp (registers_of m)).register ≡ f → allocate_temp m ≡ registered f (with_registers (allocated Register.Temp (registers_of m)).set m)
       result f e = rw e
 
-      go : (f : Found) → (allocated Register.Temp (registers_of m)).register ≡ f → Good t root (Settled m Dest.Any) (λ F. allocate_temp) m
-      go (Found.At r) e =
+      go : (f : Result Register Refusal) → (allocated Register.Temp (registers_of m)).register ≡ f → Good t root (Settled m None) (λ F. allocate_temp) m
+      go (Ok r) e =
           let k : Allocates Register.Temp (registers_of m) r (allocated Register.Temp (registers_of m)).set = allocates Register.Temp (registers_of m) r e in
           let s : RegisterSet = (allocated Register.Temp (registers_of m)).set in
-          one {o = ends (Register.Temp k.number) (with_registers s m)} (result (Found.At r) e ∙ ap (λ x. ends x (with_registers s m)) k.of_kind) (takes k.takes)
+          one {o = ends (Register.Temp k.number) (with_registers s m)} (result (Ok r) e ∙ ap (λ x. ends x (with_registers s m)) k.of_kind) (takes k.takes)
           (fine (record {
             kept = record {
               sound = λ h. take_sound k.takes h;
@@ -233,16 +231,16 @@ module _ {t : Tree} {root : ℕ} where
             spot = k.takes.was_free;
             ready = k.takes.now_held;
           }))
-      go (Found.Refused refusal) e =
+      go (Err refusal) e =
           let k : Refuses (registers_of m) refusal (allocated Register.Temp (registers_of m)).set = allocation_refused Register.Temp (registers_of m) refusal e in
           refusing
-          (result (Found.Refused refusal) e ∙ ap (λ x. stops (unnamed x) (with_registers (allocated Register.Temp (registers_of m)).set m)) k.reason ∙ ap (λ x. stops (unnamed Refusal.Registers) (with_registers x m)) k.unchanged)
+          (result (Err refusal) e ∙ ap (λ x. stops (unnamed x) (with_registers (allocated Register.Temp (registers_of m)).set m)) k.reason ∙ ap (λ x. stops (unnamed Refusal.Registers) (with_registers x m)) k.unchanged)
           (Own.registers k.all_held)
 
-  pub destination_good : (m : Made) (dest : Dest) → DestReady m dest → Good t root (Settled m dest) (λ F. destination dest) m
+  pub destination_good : (m : Made) (dest : Option Register) → DestReady m dest → Good t root (Settled m dest) (λ F. destination dest) m
   unfolding destination
-  destination_good m (Dest.To d) h = done d (record { kept = kept_refl m; spot = refl; ready = h })
-  destination_good m Dest.Any h = take_good m
+  destination_good m (Some d) h = done d (record { kept = kept_refl m; spot = refl; ready = h })
+  destination_good m None h = take_good m
 
   -- a register that an earlier state did not hold, given back
   pub give_good : {m₀ m : Made} (r : Register) → NotHeld m₀ r → RegisterReady m r → Sound (registers_of m) → Kept m₀ m → Good t root (λ u n. GiveKeeps m₀ m r n) (λ F. F r) m
@@ -285,7 +283,7 @@ module _ {t : Tree} {root : ℕ} where
           let fits : instructions_of m < capacity (length (words_of i)) m.code = rw (length_words_of i) h in
           rw (append_room m.code (instructions_of m) max_instructions (words_of i) Refusal.Code l fits, length_words_of i)
 
-      refused : append m.code (instructions_of m) max_instructions (words_of i) Refusal.Code ≡ buffer m.code (record { count = instructions_of m; place = Place.Refused Refusal.Code }) →
+      refused : append m.code (instructions_of m) max_instructions (words_of i) Refusal.Code ≡ buffer m.code (record { count = instructions_of m; place = Err Refusal.Code }) →
           emit i m ≡ stops (unnamed Refusal.Code) m
       refused e = rw e
 
@@ -341,7 +339,7 @@ module _ {t : Tree} {root : ℕ} where
           let fits : constants_of m < capacity (length (constant_words c)) m.constants = rw (constant_length c) h in
           rw (store_new m.constants (constants_of m) c o, append_room m.constants (constants_of m) max_count (constant_words c) Refusal.Constants l fits, constant_length c)
 
-      refused : n ≤ place → append m.constants n max_count (constant_words c) Refusal.Constants ≡ buffer m.constants (record { count = n; place = Place.Refused Refusal.Constants }) →
+      refused : n ≤ place → append m.constants n max_count (constant_words c) Refusal.Constants ≡ buffer m.constants (record { count = n; place = Err Refusal.Constants }) →
           store c m ≡ stops (unnamed Refusal.Constants) m
       refused o e = rw (store_new m.constants (constants_of m) c o, e)
 
@@ -400,7 +398,7 @@ module _ {t : Tree} {root : ℕ} where
           mark i (span_start t i) (span_end t i) m ≡ ends (marks_of m) (with_marks (put_record 1 m.marks (marks_of m) ((instructions_of m - 1) ∷ [])) (marks_of m + 1) m)
       made z l h = rw (ne_eqb (instructions_of m) 0 z, append_room m.marks (marks_of m) max_count ((instructions_of m - 1) ∷ []) Refusal.Marks l h)
 
-      refused : instructions_of m ≢ 0 → append m.marks (marks_of m) max_count ((instructions_of m - 1) ∷ []) Refusal.Marks ≡ buffer m.marks (record { count = marks_of m; place = Place.Refused Refusal.Marks }) →
+      refused : instructions_of m ≢ 0 → append m.marks (marks_of m) max_count ((instructions_of m - 1) ∷ []) Refusal.Marks ≡ buffer m.marks (record { count = marks_of m; place = Err Refusal.Marks }) →
           mark i (span_start t i) (span_end t i) m ≡ stops (unnamed Refusal.Marks) m
       refused z e = rw (ne_eqb (instructions_of m) 0 z, e)
 

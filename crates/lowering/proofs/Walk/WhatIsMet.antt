@@ -1,18 +1,18 @@
 -- A walk that ends has met no name that is not declared, no if without an else, and no key without a value that is no name: the walk of a node that
 -- meets one never ends. Assumes nothing.
+use Rattle.std.specs.Prelude.{Option, Some, None, Result, Ok, Err}
+use Rattle.diagnostics.specs.declared.Refusal.{Refusal}
 use Prim.Native.Nat.{ℕ, zero, suc, ◌+◌, ◌*◌, ◌≤◌, ◌<◌}
 use native.Mathlib.Omega.{arith}
 use native.Mathlib.Decide.{ℕ_discrete}
 use mathlib.Core.Path.{◌≡◌, refl, sym, ap, ◌∙◌, subst}
 use mathlib.Core.Logic.{◌≢◌, ◌⊎◌, inl, inr}
 use mathlib.Core.Bool.{Bool, true, false}
-use mathlib.Core.Option.{Option, none, some}
 use lib.Dec.{eqb}
 use lib.ListN.{length, get_or}
 use borrow.Author.Tests.{eq-eqb, ne_eqb}
 use Rattle.diagnostics.specs.declared.Error.{Error}
 use Rattle.environment.specs.declared.Register.{Register}
-use Rattle.environment.specs.declared.Found.{Found}
 use Rattle.environment.specs.Environment.{lookup}
 use Rattle.environment.specs.Laws.{Last}
 use Rattle.environment.proofs.Laws.{lookup_found}
@@ -20,7 +20,6 @@ use Rattle.syntax.specs.declared.ast.Node.{Node}
 use Rattle.syntax.specs.declared.ops.Comparison.{Comparison}
 use Rattle.syntax.specs.Ast.{absent}
 use Rattle.runtime.specs.declared.operand.Operand.{Operand}
-use Rattle.lowering.specs.declared.Dest.{Dest}
 use Rattle.lowering.specs.Tree.{Tree, node}
 use Rattle.lowering.specs.Walk.{Made, Outcome, ends, stops, Walk, bind, ◌>>=◌}
 use Rattle.lowering.specs.Steps.{free_temp}
@@ -64,10 +63,10 @@ never_right {A} {B} w {k} h = record { never = λ m n b e. go n b (w m) e }
 pub data Bad (t : Tree) : Node → Type 0 where
   undeclared : {symbol : ℕ} → ((j : ℕ) → j < length t.names → get_or t.names j 0 ≢ symbol) → Bad t (Node.Identifier symbol)
   without_else : {c a : ℕ} → Bad t (Node.If c a absent)
-  no_value : {first count : ℕ} (k : ℕ) → k < count → name_of (node t (get_or t.list (first + 2 * k) 0)) ≡ none →
+  no_value : {first count : ℕ} (k : ℕ) → k < count → name_of (node t (get_or t.list (first + 2 * k) 0)) ≡ None →
       get_or t.list (first + 2 * k + 1) 0 ≡ absent → Bad t (Node.Map first count)
 
-module _ (t : Tree) (E : ℕ → Dest → Walk Operand) where
+module _ (t : Tree) (E : ℕ → Option Register → Walk Operand) where
   never_entries : (d : Register) (first j : ℕ) →
       Never (lower_entry t E d (get_or t.list (first + 2 * j) 0) (get_or t.list (first + 2 * j + 1) 0) (name_of (node t (get_or t.list (first + 2 * j) 0)))) →
       (n k : ℕ) → k ≤ j → j < k + n → Never (lower_entries t E d first n k)
@@ -81,13 +80,13 @@ module _ (t : Tree) (E : ℕ → Dest → Walk Operand) where
       go (no e) f = never_right _ (λ x. f (omega arith) (omega arith))
 
   -- the node itself
-  never_bad : {n : Node} → Bad t n → (J : ℕ → Walk ℕ) (i : ℕ) (dest : Dest) → Never (lower_node free_temp t E J i n dest)
+  never_bad : {n : Node} → Bad t n → (J : ℕ → Walk ℕ) (i : ℕ) (dest : Option Register) → Never (lower_node free_temp t E J i n dest)
   unfolding lower_node lower_name lower_else lower_entry
   never_bad (undeclared {symbol = symbol} h) J i dest = go (lookup t.names (length t.names) symbol) refl
     where
-      go : (f : Found) → lookup t.names (length t.names) symbol ≡ f → Never (lower_name t i f dest)
-      go (Found.At r) e = let k : Last t.names (length t.names) symbol r = lookup_found t.names (length t.names) symbol r e in absurd (h k.index k.in_range k.named)
-      go (Found.Refused refusal) e = refused
+      go : (f : Result Register Refusal) → lookup t.names (length t.names) symbol ≡ f → Never (lower_name t i f dest)
+      go (Ok r) e = let k : Last t.names (length t.names) symbol r = lookup_found t.names (length t.names) symbol r e in absurd (h k.index k.in_range k.named)
+      go (Err refusal) e = refused
   never_bad without_else J i dest = never_right _ (λ j. never_right _ (λ d. never_right _ (λ r. never_right _ (λ e. never_right _ (λ u. never_left _ refused)))))
   never_bad (no_value {first = first} {count = count} k h e f) J i dest =
       never_right _ (λ d. never_right _ (λ p. never_left _ (never_entries d first k (entry d) count 0 (omega arith) (omega arith))))
@@ -96,8 +95,8 @@ module _ (t : Tree) (E : ℕ → Dest → Walk Operand) where
       entry d = rw (e, eq-eqb (get_or t.list (first + 2 * k + 1) 0) absent f) refused
 
   -- a part of it, whose walk never ends
-  module _ (c : ℕ) (h : (d : Dest) → Never (E c d)) where
-    never_made : (d : Dest) → Never (lower_materializing (E c) d)
+  module _ (c : ℕ) (h : (d : Option Register) → Never (E c d)) where
+    never_made : (d : Option Register) → Never (lower_materializing (E c) d)
     unfolding lower_materializing
     never_made d = never_left _ (h d)
 
@@ -107,60 +106,60 @@ module _ (t : Tree) (E : ℕ → Dest → Walk Operand) where
     never_arguments i first j e (suc n) k a b = go (ℕ_discrete j k) (λ x y. never_arguments i first j e n (suc k) x y)
       where
         go : Dec (j ≡ k) → (suc k ≤ j → j < suc k + n → Never (lower_arguments t E i first n (suc k))) → Never (lower_arguments t E i first (suc n) k)
-        go (yes q) f = never_left _ (subst (λ x. Never (lower_materializing (E x) (Dest.To (Register.Local k)))) (sym e ∙ ap (λ x. get_or t.list (first + x) 0) q) (never_made (Dest.To (Register.Local k))))
+        go (yes q) f = never_left _ (subst (λ x. Never (lower_materializing (E x) (Some (Register.Local k)))) (sym e ∙ ap (λ x. get_or t.list (first + x) 0) q) (never_made (Some (Register.Local k))))
         go (no q) f = never_right _ (λ x. never_right _ (λ y. f (omega arith) (omega arith)))
 
-    never_key : (d : Register) (v : ℕ) (o : Option ℕ) → (o ≡ none) ⊎ (v ≡ absent) → Never (lower_entry t E d c v o)
+    never_key : (d : Register) (v : ℕ) (o : Option ℕ) → (o ≡ None) ⊎ (v ≡ absent) → Never (lower_entry t E d c v o)
     unfolding lower_entry
-    never_key d v none q = go (eqb v absent) refl
+    never_key d v None q = go (eqb v absent) refl
       where
-        go : (b : Bool) → eqb v absent ≡ b → Never (lower_entry t E d c v none)
+        go : (b : Bool) → eqb v absent ≡ b → Never (lower_entry t E d c v None)
         go true e = rw e refused
-        go false e = rw e (never_left _ (h Dest.Any))
-    never_key d v (some name) (inl e) = let z : ◌≡◌ {A = ℕ} 0 1 = cc in absurd (omega arith)
-    never_key d v (some name) (inr e) = rw (eq-eqb v absent e) (never_left _ (never_made Dest.Any))
+        go false e = rw e (never_left _ (h None))
+    never_key d v (Some name) (inl e) = let z : ◌≡◌ {A = ℕ} 0 1 = cc in absurd (omega arith)
+    never_key d v (Some name) (inr e) = rw (eq-eqb v absent e) (never_left _ (never_made None))
 
     never_value : (d : Register) (k : ℕ) (o : Option ℕ) → c ≢ absent → Never (lower_entry t E d k c o)
     unfolding lower_entry
-    never_value d k none e = rw (ne_eqb c absent e) (never_right _ (λ x. never_left _ (h Dest.Any)))
-    never_value d k (some name) e = rw (ne_eqb c absent e) (never_left _ (h Dest.Any))
+    never_value d k None e = rw (ne_eqb c absent e) (never_right _ (λ x. never_left _ (h None)))
+    never_value d k (Some name) e = rw (ne_eqb c absent e) (never_left _ (h None))
 
-  never_part : {n : Node} {c : ℕ} → Part t n c → ((d : Dest) → Never (E c d)) → (J : ℕ → Walk ℕ) → Never (J c) → (i : ℕ) (dest : Dest) →
+  never_part : {n : Node} {c : ℕ} → Part t n c → ((d : Option Register) → Never (E c d)) → (J : ℕ → Walk ℕ) → Never (J c) → (i : ℕ) (dest : Option Register) →
       Never (lower_node free_temp t E J i n dest)
   unfolding lower_node lower_else lower_tail
-  never_part left h J j i dest = never_right _ (λ d. never_left _ (h Dest.Any))
-  never_part right h J j i dest = never_right _ (λ d. never_right _ (λ x. never_left _ (h Dest.Any)))
-  never_part {c = c} operand h J j i dest = never_right _ (λ d. never_left _ (never_made c h Dest.Any))
-  never_part {c = c} negated h J j i dest = never_right _ (λ d. never_left _ (never_made c h Dest.Any))
-  never_part {c = c} and_left h J j i dest = never_right _ (λ d. never_left _ (never_made c h (Dest.To d)))
-  never_part {c = c} and_right h J j i dest = never_right _ (λ d. never_right _ (λ x. never_right _ (λ y. never_left _ (never_made c h (Dest.To d)))))
-  never_part {c = c} or_left h J j i dest = never_right _ (λ d. never_left _ (never_made c h (Dest.To d)))
-  never_part {c = c} or_right h J j i dest = never_right _ (λ d. never_right _ (λ x. never_right _ (λ y. never_left _ (never_made c h (Dest.To d)))))
+  never_part left h J j i dest = never_right _ (λ d. never_left _ (h None))
+  never_part right h J j i dest = never_right _ (λ d. never_right _ (λ x. never_left _ (h None)))
+  never_part {c = c} operand h J j i dest = never_right _ (λ d. never_left _ (never_made c h None))
+  never_part {c = c} negated h J j i dest = never_right _ (λ d. never_left _ (never_made c h None))
+  never_part {c = c} and_left h J j i dest = never_right _ (λ d. never_left _ (never_made c h (Some d)))
+  never_part {c = c} and_right h J j i dest = never_right _ (λ d. never_right _ (λ x. never_right _ (λ y. never_left _ (never_made c h (Some d)))))
+  never_part {c = c} or_left h J j i dest = never_right _ (λ d. never_left _ (never_made c h (Some d)))
+  never_part {c = c} or_right h J j i dest = never_right _ (λ d. never_right _ (λ x. never_right _ (λ y. never_left _ (never_made c h (Some d)))))
   never_part condition h J j i dest = never_left _ j
-  never_part {c = c} then_part h J j i dest = never_right _ (λ x. never_right _ (λ d. never_left _ (never_made c h (Dest.To d))))
+  never_part {c = c} then_part h J j i dest = never_right _ (λ x. never_right _ (λ d. never_left _ (never_made c h (Some d))))
   never_part {c = c} (else_part e) h J j i dest =
-      rw (ne_eqb c absent e) (never_right _ (λ x. never_right _ (λ d. never_right _ (λ r. never_right _ (λ p. never_right _ (λ u. never_left _ (never_made c h (Dest.To d))))))))
-  never_part {c = c} (tail e) h J j i dest = rw (ne_eqb c absent e) (never_right _ (λ d. never_left _ (never_made c h (Dest.To d))))
+      rw (ne_eqb c absent e) (never_right _ (λ x. never_right _ (λ d. never_right _ (λ r. never_right _ (λ p. never_right _ (λ u. never_left _ (never_made c h (Some d))))))))
+  never_part {c = c} (tail e) h J j i dest = rw (ne_eqb c absent e) (never_right _ (λ d. never_left _ (never_made c h (Some d))))
   never_part {c = c} (argument {first = first} {count = count} k l) h J j i dest =
       never_left _ (never_arguments c h i first k refl count 0 (omega arith) (omega arith))
-  never_part {c = c} called h J j i dest = never_right _ (λ u. never_right _ (λ d. never_left _ (never_made c h Dest.Any)))
-  never_part {c = c} object h J j i dest = never_right _ (λ d. never_left _ (never_made c h Dest.Any))
+  never_part {c = c} called h J j i dest = never_right _ (λ u. never_right _ (λ d. never_left _ (never_made c h None)))
+  never_part {c = c} object h J j i dest = never_right _ (λ d. never_left _ (never_made c h None))
   never_part {c = c} (key {first = first} {count = count} k l q) h J j i dest =
       never_right _ (λ d. never_right _ (λ p. never_left _ (never_entries d first k (never_key c h d _ _ q) count 0 (omega arith) (omega arith))))
   never_part {c = c} (value {first = first} {count = count} k l q) h J j i dest =
       never_right _ (λ d. never_right _ (λ p. never_left _ (never_entries d first k (never_value c h d _ _ q) count 0 (omega arith) (omega arith))))
 
   -- as a condition
-  module _ (sense : Bool) (own : Dest → Walk Operand) (o : (d : Dest) → Never (own d)) where
+  module _ (sense : Bool) (own : Option Register → Walk Operand) (o : (d : Option Register) → Never (own d)) where
     never_tested : Never (test t E sense own)
     unfolding test lower_materializing
-    never_tested = never_left _ (never_left _ (o Dest.Any))
+    never_tested = never_left _ (never_left _ (o None))
 
-    never_fused : (c : Option Comparison) (l r : ℕ) → ((d : Dest) → Never (E l d)) ⊎ ((d : Dest) → Never (E r d)) → Never (fuse t E sense own c l r)
+    never_fused : (c : Option Comparison) (l r : ℕ) → ((d : Option Register) → Never (E l d)) ⊎ ((d : Option Register) → Never (E r d)) → Never (fuse t E sense own c l r)
     unfolding fuse
-    never_fused none l r h = never_tested
-    never_fused (some c) l r (inl h) = never_left _ (h Dest.Any)
-    never_fused (some c) l r (inr h) = never_right _ (λ x. never_left _ (h Dest.Any))
+    never_fused None l r h = never_tested
+    never_fused (Some c) l r (inl h) = never_left _ (h None)
+    never_fused (Some c) l r (inr h) = never_right _ (λ x. never_left _ (h None))
 
     never_jump_bad : {n : Node} → Bad t n → Never (jump_node t E sense own n)
     unfolding jump_node
@@ -168,7 +167,7 @@ module _ (t : Tree) (E : ℕ → Dest → Walk Operand) where
     never_jump_bad without_else = never_tested
     never_jump_bad (no_value k h e f) = never_tested
 
-    never_jump : {n : Node} {c : ℕ} → Part t n c → ((d : Dest) → Never (E c d)) → Never (jump_node t E sense own n)
+    never_jump : {n : Node} {c : ℕ} → Part t n c → ((d : Option Register) → Never (E c d)) → Never (jump_node t E sense own n)
     unfolding jump_node
     never_jump (left {operator = operator} {l = l} {r = r}) h = never_fused (comparison operator) l r (inl h)
     never_jump (right {operator = operator} {l = l} {r = r}) h = never_fused (comparison operator) l r (inr h)
@@ -192,7 +191,7 @@ module _ (t : Tree) where
   mutual
     unfolding expression_below jump_below
 
-    never_below : {i j : ℕ} → Meets t i j → Bad t (node t j) → (f : ℕ) (dest : Dest) → Never (expression_below free_temp t f i dest)
+    never_below : {i j : ℕ} → Meets t i j → Bad t (node t j) → (f : ℕ) (dest : Option Register) → Never (expression_below free_temp t f i dest)
     never_below m b zero dest = refused
     never_below {i = i} here b (suc f) dest = never_bad t (expression_below free_temp t f) b (jump_below free_temp t f) i dest
     never_below {i = i} (below p m) b (suc f) dest =
@@ -209,7 +208,7 @@ module _ (t : Tree) where
 
   never_root : {root j : ℕ} → Meets t root j → Bad t (node t j) → (mode : ℕ) → Never (lower_root free_temp t mode root)
   unfolding lower_root lower_expression lower_jump_if_false lower_jump_if_true lower_materializing
-  never_root {root = root} m b zero = never_left _ (never_left _ (never_below m b (suc root) Dest.Any))
+  never_root {root = root} m b zero = never_left _ (never_left _ (never_below m b (suc root) None))
   never_root {root = root} m b (suc zero) = never_left _ (never_jump_below m b (suc root))
   never_root {root = root} here b (suc (suc mode)) =
       never_left _ (never_jump_bad t (λ n d. expression_below free_temp t (suc n) n d) true (λ d. expression_below free_temp t (suc root) root d) (λ d. never_below here b (suc root) d) b)
@@ -248,9 +247,9 @@ module _ (t : Tree) where
     met_else {c = c} {a = a} m q z = met_fine m (rw (q, z) without_else)
 
     pub met_key : {i first count : ℕ} → Meets t root i → node t i ≡ Node.Map first count → (k : ℕ) → k < count → get_or t.list (first + 2 * k + 1) 0 ≡ absent →
-        (name : ℕ) × (name_of (node t (get_or t.list (first + 2 * k) 0)) ≡ some name)
+        (name : ℕ) × (name_of (node t (get_or t.list (first + 2 * k) 0)) ≡ Some name)
     met_key {first = first} m q k l z = go (name_of (node t (get_or t.list (first + 2 * k) 0))) refl
       where
-        go : (o : Option ℕ) → name_of (node t (get_or t.list (first + 2 * k) 0)) ≡ o → (name : ℕ) × (name_of (node t (get_or t.list (first + 2 * k) 0)) ≡ some name)
-        go (some name) e = (name, e)
-        go none e = absurd (met_fine m (rw q (no_value k l e z)))
+        go : (o : Option ℕ) → name_of (node t (get_or t.list (first + 2 * k) 0)) ≡ o → (name : ℕ) × (name_of (node t (get_or t.list (first + 2 * k) 0)) ≡ Some name)
+        go (Some name) e = (name, e)
+        go None e = absurd (met_fine m (rw q (no_value k l e z)))

@@ -5,8 +5,8 @@ use Rattle.lower_text.proofs.Laws.{listing_room, listed, cut_text}
 use Rattle.lowerlist.proofs.list_input.Goals as goal
 
 pub returns-clause-fits : goal.returns-clause-fits
-returns-clause-fits c = listing_room _ c.list.ensures.length refl
+returns-clause-fits c = listing_room _ c.list.ensures.count refl
 
 pub returns-clause-bytes : goal.returns-clause-bytes
 returns-clause-bytes c input e =
-    listed _ _ c.list.ensures.length c.list.ensures.bytes (sym c.requires.listing_room) ∙ ap lowerlist e ∙ cut_text input _ (omega arith)
+    listed _ _ c.list.ensures.count c.list.ensures.stored (sym c.requires.listing_room) ∙ ap lowerlist e ∙ cut_text input _ (omega arith)

@@ -1,6 +1,6 @@
--- `questions::entries_below` meets its contract. The invariant: the entries that are left are below i exactly where all are. The measure is
--- how many are left. Assumes nothing.
-use Rattle.std.proofs.Common.{◌≡◌, ◌*◌, ◌-◌, ◌≤◌, take, drop}
+-- `questions::entries_below` meets its contract. The invariant: the entries that are left are below i exactly where all are.
+-- Assumes nothing.
+use Rattle.std.proofs.Common.{◌≡◌, ◌*◌, take, drop}
 use Rattle.words.specs.Words.{words}
 use Rattle.lowering.specs.Tree.{entry_nodes}
 use Rattle.lowering.specs.Questions.{all_below}
@@ -8,10 +8,5 @@ use Rattle.questions.proofs.Below.{entries_from}
 use Rattle.questions.proofs.entries_below.Given as goal
 
 abbrev pub invariant-loop-k : goal.invariant-loop-k
-invariant-loop-k l = record {
-  in_range : l.k ≤ l.count;
-  left : all_below l.i (entries_from (words l.list) l.first l.count l.k) ≡ all_below l.i (entry_nodes (take (2 * l.count) (drop l.first (words l.list))));
-}
-
-abbrev pub decreases-loop-k : goal.decreases-loop-k
-decreases-loop-k l = l.count - l.k
+invariant-loop-k l =
+    all_below l.i (entries_from (words l.list) l.first l.count l.k) ≡ all_below l.i (entry_nodes (take (2 * l.count) (drop l.first (words l.list))))

@@ -21,14 +21,14 @@ loop-i-preserved c =
 
 pub returns-after-loop-i : goal.returns-after-loop-i
 returns-after-loop-i c =
-    let comments = c.comments_end-at.ensures in
+    let comments = c.comments_end-comments.ensures in
     let first = rw comments at c.line_end-at.ensures.end in
     let gives = all_replayed _ _ _ (rw comments at c.number-cases.ensures) first c.line_end-at.ensures.within c.loop-i.invariant (omega arith) in
     record { outcome = gives.0; within = gives.1 }
 
-pub returns-then-answers-next : goal.returns-then-answers-next
-returns-then-answers-next c =
-    let comments = c.comments_end-at.ensures in
+pub returns-then-answers-c : goal.returns-then-answers-c
+returns-then-answers-c c =
+    let comments = c.comments_end-comments.ensures in
     let first = rw comments at c.line_end-at.ensures.end in
     let gives = rest_cut _ _ _ (rw comments at c.number-cases.ensures) first c.line_end-at.ensures.within c.loop-i.invariant c.case_at-c.ensures (omega arith) in
     record { outcome = gives.0; within = gives.1 }

@@ -3,7 +3,7 @@ use Rattle.std.proofs.Common.{length, sym, arith}
 use Rattle.words.specs.Words.{words}
 use Rattle.words.specs.Records.{put_record}
 use Rattle.words.proofs.Words.{length_words}
-use Rattle.words.proofs.Records.{room, append_room, append_full, append_limit, appended_new, appended_full}
+use Rattle.words.proofs.Records.{room, append_room, append_full, append_limit}
 use Rattle.words.proofs.append.Goals as goal
 
 pub overflow_mul-width : goal.overflow_mul-width
@@ -17,14 +17,12 @@ put_record-requires c = room _ _ _ (rw c.capacity.ensures at c.if-at-capacity.tr
 
 pub returns-then-at-capacity-clause-words : goal.returns-then-at-capacity-clause-words
 unfolding put_record
-returns-then-at-capacity-clause-words c refusal =
+returns-then-at-capacity-clause-words c =
     let a = c.args in
-    rw (c.put_record.ensures.words, appended_new a.count refusal (omega arith))
-    (sym (append_room _ _ _ a.item.now refusal c.if-count-limit.true (rw c.capacity.ensures at c.if-at-capacity.true)))
+    rw c.put_record.ensures.words (sym (append_room _ _ _ a.item.now a.refusal c.if-count-limit.true (rw c.capacity.ensures at c.if-at-capacity.true)))
 
 pub returns-else-at-capacity-clause-words : goal.returns-else-at-capacity-clause-words
-returns-else-at-capacity-clause-words c refusal =
-    rw (appended_full _ refusal) (sym (append_full _ _ _ c.args.item.now refusal (rw c.capacity.ensures at c.if-at-capacity.false)))
+returns-else-at-capacity-clause-words c = sym (append_full _ _ _ c.args.item.now c.args.refusal (rw c.capacity.ensures at c.if-at-capacity.false))
 
 pub returns-else-count-limit-clause-words : goal.returns-else-count-limit-clause-words
-returns-else-count-limit-clause-words c refusal = rw (appended_full _ refusal) (sym (append_limit _ _ _ c.args.item.now refusal c.if-count-limit.false))
+returns-else-count-limit-clause-words c = sym (append_limit _ _ _ c.args.item.now c.args.refusal c.if-count-limit.false)

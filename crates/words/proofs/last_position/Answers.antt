@@ -3,7 +3,7 @@ use Rattle.std.proofs.Common.{sym, ◌∙◌, arith}
 use Rattle.words.proofs.Words.{length_words}
 use Rattle.words.proofs.Search.{last_found, last_more, last_end, last_zero, last_past}
 use Rattle.words.proofs.last_position.Goals as goal
-use Rattle.words.proofs.last_position.Goals.{then-words-i+else-x-eq0, else-words-i}
+use Rattle.words.proofs.last_position.Goals.{then-words-end+else-x-eq0, else-words-end}
 
 pub returns-then-x-eq0 : goal.returns-then-x-eq0
 returns-then-x-eq0 c = rw c.if-x-eq0.true (last_zero _ _ (omega (arith, length_words c.args.s.now)))
@@ -11,13 +11,13 @@ returns-then-x-eq0 c = rw c.if-x-eq0.true (last_zero _ _ (omega (arith, length_w
 pub loop-i-init : goal.loop-i-init
 loop-i-init c =
     let whole = length_words c.args.s.now in
-    elim c.if-words-i.branch [
-      | then-words-i+else-x-eq0 w ↦ record {
+    elim c.if-words-end.branch [
+      | then-words-end+else-x-eq0 w ↦ record {
         whole = omega arith;
         counted = omega arith;
         found = last_past _ _ _ _ w.if-x-eq0.false (omega arith) (omega arith);
       }
-      | else-words-i w ↦ record { whole = omega arith; counted = omega arith; found = rw w.i-is }
+      | else-words-end w ↦ record { whole = omega arith; counted = omega arith; found = rw w.end-is }
     ]
 
 pub returns-then-whole_word-x : goal.returns-then-whole_word-x

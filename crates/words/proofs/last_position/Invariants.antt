@@ -1,4 +1,4 @@
--- The invariant: among the first i words stands what is found among all. The measure is i.
+-- The invariant: among the first i words stands what is found among all.
 use Rattle.std.proofs.Common.{length, ◌≡◌, ◌≤◌}
 use Rattle.words.specs.Words.{words}
 use Rattle.words.specs.Records.{last_position}
@@ -10,6 +10,3 @@ invariant-loop-i l = record {
   counted : l.i ≤ l.count;
   found : last_position (words l.s) l.i l.x ≡ last_position (words l.s) l.count l.x;
 }
-
-abbrev pub decreases-loop-i : goal.decreases-loop-i
-decreases-loop-i l = l.i

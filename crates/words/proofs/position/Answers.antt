@@ -3,7 +3,7 @@ use Rattle.std.proofs.Common.{◌∙◌, length, sym, arith}
 use Rattle.words.specs.Words.{words}
 use Rattle.words.proofs.Words.{length_words}
 use Rattle.words.proofs.Records.{room}
-use Rattle.words.proofs.Search.{whole_is, search_start, search_found, search_more, search_end, search_past}
+use Rattle.words.proofs.Search.{whole_is, search_start, search_found, search_more, search_end, search_past, first_some, first_none}
 use Rattle.words.proofs.position.Goals as goal
 use Rattle.words.proofs.position.Goals.{then-records-count, else-records-count}
 
@@ -26,7 +26,9 @@ same_words-requires c = room (length c.args.item.now) (words c.args.s.now) c.loo
 
 pub returns-then-same_words : goal.returns-then-same_words
 returns-then-same_words c =
-    search_found _ _ _ _ c.loop-p.invariant.found (omega arith) (whole_is _ _ _ (omega arith) ∙ sym c.same_words.ensures ∙ c.if-same_words.true)
+    first_some _ _ _
+    (search_found _ _ _ _ c.loop-p.invariant.found (omega arith) (whole_is _ _ _ (omega arith) ∙ sym c.same_words.ensures ∙ c.if-same_words.true))
+    (omega arith)
 
 pub loop-p-preserved : goal.loop-p-preserved
 loop-p-preserved c =
@@ -42,6 +44,6 @@ pub returns : goal.returns
 returns c =
     let inv = c.loop-p.invariant in
     elim c.if-records-count.branch [
-      | then-records-count w ↦ search_past _ _ _ _ inv.found (omega arith) (omega arith)
-      | else-records-count w ↦ search_end _ _ _ _ inv.found (omega arith) (omega arith)
+      | then-records-count w ↦ first_none _ _ _ (search_past _ _ _ _ inv.found (omega arith) (omega arith)) (omega arith)
+      | else-records-count w ↦ first_none _ _ _ (search_end _ _ _ _ inv.found (omega arith) (omega arith)) (omega arith)
     ]

@@ -1,4 +1,4 @@
--- The invariant: the search from p on finds what the whole search finds. The measure is what is left of `end`.
+-- The invariant: the search from p on finds what the whole search finds.
 use Rattle.std.proofs.Common.{◌≡◌, ◌≤◌, ◌-◌, length}
 use Rattle.words.specs.Words.{words}
 use Rattle.words.specs.Records.{capacity, position, position_from}
@@ -11,6 +11,3 @@ invariant-loop-p l = record {
   whole : l.end ≤ capacity (length l.item) (words l.s);
   found : position_from (words l.s) l.item (l.count - l.p) l.p ≡ position (words l.s) l.item l.count;
 }
-
-abbrev pub decreases-loop-p : goal.decreases-loop-p
-decreases-loop-p l = l.end - l.p

@@ -1,5 +1,5 @@
--- The invariant: what the rest of `xs` makes of the slice is what all of `xs` makes of it at entry. The measure is what is left of `xs`.
-use Rattle.std.proofs.Common.{length, ◌-◌, ◌≡◌, ◌+◌, ◌≤◌, drop}
+-- The invariant: what the rest of `xs` makes of the slice is what all of `xs` makes of it at entry.
+use Rattle.std.proofs.Common.{length, ◌≡◌, ◌+◌, ◌≤◌, drop}
 use Rattle.std.proofs.lemmas.List.Edits.{sets}
 use Rattle.words.specs.Words.{words, tail}
 use Rattle.words.proofs.put_record.Given as goal
@@ -10,6 +10,3 @@ invariant-loop-k l = record {
   words : sets (words l.s) (l.at + l.k) (drop l.k l.xs) ≡ sets (words l.initial.s) l.at l.xs;
   tail : tail l.s ≡ tail l.initial.s;
 }
-
-abbrev pub decreases-loop-k : goal.decreases-loop-k
-decreases-loop-k l = length l.xs - l.k

@@ -1,5 +1,5 @@
 -- What is left of the line makes of the slice what the whole line makes of it at entry.
-use Rattle.std.proofs.Common.{◌≡◌, ◌-◌, ◌*◌, ◌≤◌, length, drop}
+use Rattle.std.proofs.Common.{◌≡◌, ◌*◌, ◌≤◌, length, drop}
 use Rattle.std.proofs.lemmas.List.Edits.{sets}
 use Rattle.words.specs.Words.{words}
 use Rattle.listing.specs.Output.{write_line}
@@ -8,8 +8,5 @@ use Rattle.listing.proofs.output.write_line.Given as goal
 
 abbrev pub invariant-loop-k : goal.invariant-loop-k
 invariant-loop-k l =
-    (l.k ≤ l.width) × (l.at ≤ length l.initial.out)
+    (l.at ≤ length l.initial.out)
     × (line_to_write l.at l.width l.first (words l.s) l.out l.k ≡ sets l.initial.out l.at (write_line l.width (drop (l.width * l.place) (words l.s))))
-
-abbrev pub decreases-loop-k : goal.decreases-loop-k
-decreases-loop-k l = l.width - l.k

@@ -1,0 +1,907 @@
+-- The needs of the walk, arm by arm. Each returns what its clause of the definition gives, a step a line. Assumes nothing.
+use Rattle.std.proofs.Common.{rules, refl, ap, sym, ◌∙◌, inr, arith, None}
+use Rattle.words.proofs.Records.{append_placed}
+use native.Mathlib.Nat.{sub-zero}
+use borrow.Author.Tests.{eq-eqb, ne_eqb}
+use Rattle.words.specs.Words.{words}
+use Rattle.runtime.specs.Instruction.{words_of}
+use Rattle.lowering.specs.Tree.{tree_of}
+use Rattle.lowering.specs.Steps.{free_temp}
+use Rattle.lowering.specs.Lower.{lower_materializing, lower_node, lower_tail, test, lower_expression}
+use Rattle.lowering.proofs.Questions.Checked.{kind_word, checked_at}
+use Rattle.lowering.proofs.Bound.Lowering.{jump_false_at}
+use Rattle.steps.specs.Answers.{register_at, dest_of, operand_at, place_at, unit_at, settled}
+use Rattle.steps.proofs.Words.{dest_of_any, dest_of_to, source_operand}
+use Rattle.steps.proofs.Chains.{then, then_by, stop_by, then_done, then_stored, stop_stored, then_emitted, stop_emitted, then_marked, stop_marked, last, seen_word}
+use Rattle.codegen.specs.Ready.{Lowers}
+use Rattle.codegen.specs.Kinds.{block_kind, map_kind}
+use Rattle.codegen.proofs.Walk.{below_of, expression_of, then_freed, then_freed_source, then_patched, ended}
+use Rattle.codegen.proofs.Children.{child_in, walk_in, operand_of, register_of, into_of}
+use Rattle.codegen.proofs.FlatNodes.{given_operand}
+use Rattle.codegen.proofs.Operands.{register_word, operated, single_words, single_below, single_of, fetched, property_below, property_of, operator_below, operator_of, both_literal, word_literal, then_literals, then_operator}
+use Rattle.codegen.proofs.Branches.{then_branch_lem, stop_branch, same_fields, by_answer, lower_logical, logical_below, logical_of, jump_words, if_below, if_of, then_else, stop_else, call_below, call_of, arguments_of, arguments_none, then_argument, marked, stop_unmarked}
+use Rattle.codegen.proofs.Conditions.{past, literal_left, literal_value, answered_value, at_meeting, not_compared, compared_kind, compared_below, compared_jump, two_literals, two_sources}
+use Rattle.codegen.proofs.Entries.{below_absent, past_name, valued, leaf_key, key_and_value, store_both, entries_none, entries_again, entries_stop, at_next}
+use Rattle.codegen.proofs.arena.Arena.+walk.Goals as goal
+use Rattle.codegen.proofs.arena.Arena.+walk.Goals.{lower_map-then-is_inner+else-is_refusal-2, lower_map-else-is_inner+else-is_refusal-3, test-then-node_word-lt-IDENTIFIER, test-else-node_word-lt-IDENTIFIER}
+
+-- ---- `arguments`: each is tried, walked into its local, and marked
+
+pub arguments-peek_into-f1-requires : goal.arguments-peek_into-f1-requires
+arguments-peek_into-f1-requires t c =
+    let lower = (call_below c.args.self.now.checked _ c.requires.1 refl c.node_word-first.ensures c.node_word-count.ensures).argument _ c.loop-i-test.true in
+    (child_in _ _ _ c.requires.0 (rw c.word-argument.ensures lower), omega (arith, c.local-d.ensures))
+
+pub arguments-lower_materializing-r1-requires : goal.arguments-lower_materializing-r1-requires
+arguments-lower_materializing-r1-requires t c =
+    let lower = (call_below c.args.self.now.checked _ c.requires.1 refl c.node_word-first.ensures c.node_word-count.ensures).argument _ c.loop-i-test.true in
+    walk_in _ _ _ _ c.requires.0 (rw c.word-argument.ensures lower) (omega (arith, c.decreases)) (omega (arith, c.local-d.ensures)) (λ h. (c.peek_into-f1.ensures.inner h).1.0)
+
+pub arguments-returns-then-is_refusal-clause-lowers : goal.arguments-returns-then-is_refusal-clause-lowers
+arguments-returns-then-is_refusal-clause-lowers t c =
+    let few = (call_below c.args.self.now.checked _ c.requires.1 refl c.node_word-first.ensures c.node_word-count.ensures).few in
+    arguments_of _ _ _ c.node_word-first.ensures c.node_word-count.ensures
+    (c.loop-i.invariant.0 ∙ then_argument _ _ _ _ _ _ c.loop-i-test.true (omega (arith, c.loop-i-test.true, few)) c.word-argument.ensures c.local-d.ensures
+    (stop_branch _ c.args.self.now.checked (omega (arith, c.local-d.ensures)) (c.peek_into-f1.ensures.done, (c.peek_into-f1.ensures.inner, c.peek_into-f1.ensures.same)) (c.lower_materializing-r1.ensures.walked, c.lower_materializing-r1.ensures.done) _ c.is_refusal.ensures unit_at c.if-is_refusal.true))
+
+pub arguments-returns-then-s-eq0-clause-lowers : goal.arguments-returns-then-s-eq0-clause-lowers
+arguments-returns-then-s-eq0-clause-lowers t c =
+    let few = (call_below c.args.self.now.checked _ c.requires.1 refl c.node_word-first.ensures c.node_word-count.ensures).few in
+    by_answer _ _ _ _ _ _ (c.refused.ensures.state, c.refused.ensures.answer)
+    (arguments_of _ _ _ c.node_word-first.ensures c.node_word-count.ensures
+    (c.loop-i.invariant.0 ∙ then_argument _ _ _ _ _ _ c.loop-i-test.true (omega (arith, c.loop-i-test.true, few)) c.word-argument.ensures c.local-d.ensures
+    (then_branch_lem _ c.args.self.now.checked (omega (arith, c.local-d.ensures)) (c.peek_into-f1.ensures.done, (c.peek_into-f1.ensures.inner, c.peek_into-f1.ensures.same)) (c.lower_materializing-r1.ensures.walked, c.lower_materializing-r1.ensures.done) _ c.is_refusal.ensures c.if-is_refusal.false
+    (stop_unmarked _ _ _ _ unit_at c.if-s-eq0.true (omega (arith, c.ranges.node))))))
+
+pub arguments-returns-in_default-clause-lowers : goal.arguments-returns-in_default-clause-lowers
+arguments-returns-in_default-clause-lowers t c =
+    let few = (call_below c.args.self.now.checked _ c.requires.1 refl c.node_word-first.ensures c.node_word-count.ensures).few in
+    by_answer _ _ _ _ _ _ (c.refused-in_default.ensures.state, c.refused-in_default.ensures.answer)
+    (arguments_of _ _ _ c.node_word-first.ensures c.node_word-count.ensures
+    (c.loop-i.invariant.0 ∙ then_argument _ _ _ _ _ _ c.loop-i-test.true (omega (arith, c.loop-i-test.true, few)) c.word-argument.ensures c.local-d.ensures
+    (then_branch_lem _ c.args.self.now.checked (omega (arith, c.local-d.ensures)) (c.peek_into-f1.ensures.done, (c.peek_into-f1.ensures.inner, c.peek_into-f1.ensures.same)) (c.lower_materializing-r1.ensures.walked, c.lower_materializing-r1.ensures.done) _ c.is_refusal.ensures c.if-is_refusal.false
+    (stop_marked _ _ _ _ _ _ _ c.if-s-eq0.false (marked _ _ _ c.if-s-eq0.false c.mark_argument-marked.ensures.words) unit_at c.in_default.is))))
+
+pub arguments-loop-i-preserved : goal.arguments-loop-i-preserved
+arguments-loop-i-preserved t c =
+    let few = (call_below c.args.self.now.checked _ c.requires.1 refl c.node_word-first.ensures c.node_word-count.ensures).few in
+    let tree = tree_of c.args.self.now.nodes.now c.args.self.now.list.now c.args.self.now.names.now in (
+      c.loop-i.invariant.0 ∙ then_argument _ _ _ _ _ _ c.loop-i-test.true (omega (arith, c.loop-i-test.true, few)) c.word-argument.ensures c.local-d.ensures
+          (then_branch_lem _ c.args.self.now.checked (omega (arith, c.local-d.ensures)) (c.peek_into-f1.ensures.done, (c.peek_into-f1.ensures.inner, c.peek_into-f1.ensures.same)) (c.lower_materializing-r1.ensures.walked, c.lower_materializing-r1.ensures.done) _ c.is_refusal.ensures c.if-is_refusal.false
+          (then_marked tree _ _ _ _ _ _ c.if-s-eq0.false (marked _ _ _ c.if-s-eq0.false c.mark_argument-marked.ensures.words) c.in-Ok.is refl)),
+      search rules,
+    )
+
+pub arguments-returns-clause-lowers : goal.arguments-returns-clause-lowers
+arguments-returns-clause-lowers t c =
+    by_answer _ _ _ _ _ _ (c.answered.ensures.state, c.answered.ensures.answer)
+    (arguments_of _ _ _ c.node_word-first.ensures c.node_word-count.ensures
+    (c.loop-i.invariant.0 ∙ arguments_none _ _ _ _ _ _ c.loop-i-test.false))
+
+-- ---- `entry`: a key that is a name or a literal, and its value; or the key, and then its value
+
+pub entry-peek-f1-requires : goal.entry-peek-f1-requires
+entry-peek-f1-requires t c = (child_in _ _ _ c.requires.0 c.requires.1.1, omega arith)
+
+pub entry-returns-then-is_refusal-clause-lowers : goal.entry-returns-then-is_refusal-clause-lowers
+entry-returns-then-is_refusal-clause-lowers t c =
+    let checked = c.args.self.now.checked in
+    let has = below_absent _ _ c.requires.1.1 (omega (arith, c.ranges.node)) in
+    leaf_key _ _ _ _ _ _ (rw c.node_word.ensures at c.if-node_word-le-IDENTIFIER.true) (λ e. has) (valued _ _ has)
+    (stop_by _ _ _ _ _ _ (operand_of checked c.peek-f1.ensures.inner c.lower_materializing-r1.ensures.walked c.lower_materializing-r1.ensures.done (λ h. c.peek-f1.ensures.operand _ checked h refl)) place_at c.is_refusal.ensures c.if-is_refusal.true)
+
+pub entry-returns-then-node_word-le-IDENTIFIER-clause-lowers : goal.entry-returns-then-node_word-le-IDENTIFIER-clause-lowers
+entry-returns-then-node_word-le-IDENTIFIER-clause-lowers t c =
+    let checked = c.args.self.now.checked in
+    let has = below_absent _ _ c.requires.1.1 (omega (arith, c.ranges.node)) in
+    leaf_key _ _ _ _ _ _ (rw c.node_word.ensures at c.if-node_word-le-IDENTIFIER.true) (λ e. has) (valued _ _ has)
+    (then_by _ _ _ _ _ _ (operand_of checked c.peek-f1.ensures.inner c.lower_materializing-r1.ensures.walked c.lower_materializing-r1.ensures.done (λ h. c.peek-f1.ensures.operand _ checked h refl)) c.is_refusal.ensures c.if-is_refusal.false c.value_of-src.ensures
+    (rw (source_operand _ _) (c.set_property.ensures.lowers _ _)))
+
+pub entry-peek-f2-requires : goal.entry-peek-f2-requires
+entry-peek-f2-requires t c = (child_in _ _ _ c.requires.0 c.requires.1.0, omega arith)
+
+pub entry-returns-then-is_refusal-2-clause-lowers : goal.entry-returns-then-is_refusal-2-clause-lowers
+entry-returns-then-is_refusal-2-clause-lowers t c =
+    let checked = c.args.self.now.checked in
+    key_and_value _ _ _ _ _ _ (past_name (rw c.node_word.ensures at c.if-node_word-le-IDENTIFIER.false)) (below_absent _ _ c.requires.1.1 (omega (arith, c.ranges.node)))
+    (stop_by _ _ _ _ _ _ (operand_of checked c.peek-f2.ensures.inner c.lower_materializing-r2.ensures.walked c.lower_materializing-r2.ensures.done (λ h. c.peek-f2.ensures.operand _ checked h refl)) place_at c.is_refusal-2.ensures c.if-is_refusal-2.true)
+
+pub entry-peek-f3-requires : goal.entry-peek-f3-requires
+entry-peek-f3-requires t c = (child_in _ _ _ c.requires.0 c.requires.1.1, omega arith)
+
+pub entry-returns-then-is_refusal-3-clause-lowers : goal.entry-returns-then-is_refusal-3-clause-lowers
+entry-returns-then-is_refusal-3-clause-lowers t c =
+    let checked = c.args.self.now.checked in
+    key_and_value _ _ _ _ _ _ (past_name (rw c.node_word.ensures at c.if-node_word-le-IDENTIFIER.false)) (below_absent _ _ c.requires.1.1 (omega (arith, c.ranges.node)))
+    (then_by _ _ _ _ _ _ (operand_of checked c.peek-f2.ensures.inner c.lower_materializing-r2.ensures.walked c.lower_materializing-r2.ensures.done (λ h. c.peek-f2.ensures.operand _ checked h refl)) c.is_refusal-2.ensures c.if-is_refusal-2.false c.value_of-src1.ensures
+    (stop_by _ _ _ _ _ _ (operand_of checked c.peek-f3.ensures.inner c.lower_materializing-r3.ensures.walked c.lower_materializing-r3.ensures.done (λ h. c.peek-f3.ensures.operand _ checked h refl)) place_at c.is_refusal-3.ensures c.if-is_refusal-3.true))
+
+pub entry-returns-clause-lowers : goal.entry-returns-clause-lowers
+entry-returns-clause-lowers t c =
+    let checked = c.args.self.now.checked in
+    let kind = past_name (rw c.node_word.ensures at c.if-node_word-le-IDENTIFIER.false) in
+    key_and_value _ _ _ _ _ _ kind (below_absent _ _ c.requires.1.1 (omega (arith, c.ranges.node)))
+    (then_by _ _ _ _ _ _ (operand_of checked c.peek-f2.ensures.inner c.lower_materializing-r2.ensures.walked c.lower_materializing-r2.ensures.done (λ h. c.peek-f2.ensures.operand _ checked h refl)) c.is_refusal-2.ensures c.if-is_refusal-2.false c.value_of-src1.ensures
+    (then_by _ _ _ _ _ _ (operand_of checked c.peek-f3.ensures.inner c.lower_materializing-r3.ensures.walked c.lower_materializing-r3.ensures.done (λ h. c.peek-f3.ensures.operand _ checked h refl)) c.is_refusal-3.ensures c.if-is_refusal-3.false c.value_of-src2.ensures
+    (store_both _ _ _ _ _ _ kind _ _ (c.set_property-2.ensures.lowers _ _))))
+
+-- ---- `fuse`: the left side, the right side, and the jump of both; each side is tried and then walked
+
+pub fuse-peek-f1-requires : goal.fuse-peek-f1-requires
+fuse-peek-f1-requires t c = (child_in _ _ _ c.requires.0 (compared_below _ _ c.requires.1 c.node_word-left.ensures c.node_word-right.ensures c.args.self.now.checked).0, omega arith)
+
+pub fuse-lower_materializing-r1-requires : goal.fuse-lower_materializing-r1-requires
+fuse-lower_materializing-r1-requires t c = walk_in _ _ _ _ c.requires.0 (compared_below _ _ c.requires.1 c.node_word-left.ensures c.node_word-right.ensures c.args.self.now.checked).0 (omega (arith, c.decreases)) omega arith (λ h. omega (arith, (c.peek-f1.ensures.inner h).1.0))
+
+pub fuse-returns-then-is_refusal-clause-lowers : goal.fuse-returns-then-is_refusal-clause-lowers
+fuse-returns-then-is_refusal-clause-lowers t c =
+    let checked = c.args.self.now.checked in
+    compared_jump _ _ c.requires.1 c.node_word-left.ensures c.node_word-right.ensures _ _ _ _
+    (λ k e. stop_by _ _ _ _ _ _ (operand_of checked c.peek-f1.ensures.inner c.lower_materializing-r1.ensures.walked c.lower_materializing-r1.ensures.done (λ h. c.peek-f1.ensures.operand _ checked h refl)) place_at c.is_refusal.ensures c.if-is_refusal.true)
+
+pub fuse-peek-f2-requires : goal.fuse-peek-f2-requires
+fuse-peek-f2-requires t c = (child_in _ _ _ c.requires.0 (compared_below _ _ c.requires.1 c.node_word-left.ensures c.node_word-right.ensures c.args.self.now.checked).1, omega arith)
+
+pub fuse-lower_materializing-r2-requires : goal.fuse-lower_materializing-r2-requires
+fuse-lower_materializing-r2-requires t c = walk_in _ _ _ _ c.requires.0 (compared_below _ _ c.requires.1 c.node_word-left.ensures c.node_word-right.ensures c.args.self.now.checked).1 (omega (arith, c.decreases)) omega arith (λ h. omega (arith, (c.peek-f2.ensures.inner h).1.0))
+
+pub fuse-returns-then-is_refusal-2-clause-lowers : goal.fuse-returns-then-is_refusal-2-clause-lowers
+fuse-returns-then-is_refusal-2-clause-lowers t c =
+    let checked = c.args.self.now.checked in
+    compared_jump _ _ c.requires.1 c.node_word-left.ensures c.node_word-right.ensures _ _ _ _
+    (λ k e. then_by _ _ _ _ _ _ (operand_of checked c.peek-f1.ensures.inner c.lower_materializing-r1.ensures.walked c.lower_materializing-r1.ensures.done (λ h. c.peek-f1.ensures.operand _ checked h refl)) c.is_refusal.ensures c.if-is_refusal.false c.value_of-src1.ensures
+    (stop_by _ _ _ _ _ _ (operand_of checked c.peek-f2.ensures.inner c.lower_materializing-r2.ensures.walked c.lower_materializing-r2.ensures.done (λ h. c.peek-f2.ensures.operand _ checked h refl)) place_at c.is_refusal-2.ensures c.if-is_refusal-2.true))
+
+pub fuse-returns-then-src1-src2-clause-lowers : goal.fuse-returns-then-src1-src2-clause-lowers
+fuse-returns-then-src1-src2-clause-lowers t c =
+    let checked = c.args.self.now.checked in
+    compared_jump _ _ c.requires.1 c.node_word-left.ensures c.node_word-right.ensures _ _ _ _
+    (λ k e. then_by _ _ _ _ _ _ (operand_of checked c.peek-f1.ensures.inner c.lower_materializing-r1.ensures.walked c.lower_materializing-r1.ensures.done (λ h. c.peek-f1.ensures.operand _ checked h refl)) c.is_refusal.ensures c.if-is_refusal.false c.value_of-src1.ensures
+    (then_by _ _ _ _ _ _ (operand_of checked c.peek-f2.ensures.inner c.lower_materializing-r2.ensures.walked c.lower_materializing-r2.ensures.done (λ h. c.peek-f2.ensures.operand _ checked h refl)) c.is_refusal-2.ensures c.if-is_refusal-2.false c.value_of-src2.ensures
+    (two_literals _ _ c.requires.1 c.node_word-left.ensures c.node_word-right.ensures _ _ _ _ k _ _ c.if-src1-src2.true c.test.ensures.lowers)))
+
+pub fuse-fused_jump-requires : goal.fuse-fused_jump-requires
+fuse-fused_jump-requires t c = (c.requires.0, compared_kind _ _ c.requires.1)
+
+pub fuse-returns-clause-lowers : goal.fuse-returns-clause-lowers
+fuse-returns-clause-lowers t c =
+    let checked = c.args.self.now.checked in
+    compared_jump _ _ c.requires.1 c.node_word-left.ensures c.node_word-right.ensures _ _ _ _
+    (λ k e. then_by _ _ _ _ _ _ (operand_of checked c.peek-f1.ensures.inner c.lower_materializing-r1.ensures.walked c.lower_materializing-r1.ensures.done (λ h. c.peek-f1.ensures.operand _ checked h refl)) c.is_refusal.ensures c.if-is_refusal.false c.value_of-src1.ensures
+    (then_by _ _ _ _ _ _ (operand_of checked c.peek-f2.ensures.inner c.lower_materializing-r2.ensures.walked c.lower_materializing-r2.ensures.done (λ h. c.peek-f2.ensures.operand _ checked h refl)) c.is_refusal-2.ensures c.if-is_refusal-2.false c.value_of-src2.ensures
+    (two_sources _ _ c.requires.1 c.node_word-left.ensures c.node_word-right.ensures _ _ _ _ k _ _ (c.fused_jump.ensures.step _ _ _ _ k c.if-src1-src2.false e))))
+
+-- ---- `logical`: the left side into the destination, the jump, the right side into the same
+
+pub logical-returns-then-is_refusal-clause-lowers : goal.logical-returns-then-is_refusal-clause-lowers
+unfolding lower_logical
+logical-returns-then-is_refusal-clause-lowers t c =
+    let checked = c.args.self.now.checked in
+    logical_of checked _ c.node_word-left.ensures c.node_word-right.ensures c.requires.1 _ _
+    (stop_by _ _ register_at _ _ _ (c.destination-t.ensures.step _ _ _ _) (operand_at _) c.is_refusal.ensures c.if-is_refusal.true)
+
+pub logical-peek_into-f1-requires : goal.logical-peek_into-f1-requires
+logical-peek_into-f1-requires t c = (child_in _ _ _ c.requires.0.0 (logical_below c.args.self.now.checked _ c.node_word-left.ensures c.node_word-right.ensures c.requires.1).0, register_word _ c.is_refusal.ensures c.if-is_refusal.false c.value_of-d.ensures (c.destination-t.ensures.word c.requires.0.1))
+
+pub logical-lower_materializing-r1-requires : goal.logical-lower_materializing-r1-requires
+logical-lower_materializing-r1-requires t c =
+    let few = register_word _ c.is_refusal.ensures c.if-is_refusal.false c.value_of-d.ensures (c.destination-t.ensures.word c.requires.0.1) in
+    walk_in _ _ _ _ c.requires.0.0 (logical_below c.args.self.now.checked _ c.node_word-left.ensures c.node_word-right.ensures c.requires.1).0 (omega (arith, c.decreases)) (omega (arith, few)) (λ h. (c.peek_into-f1.ensures.inner h).1.0)
+
+pub logical-returns-then-is_refusal-2-clause-lowers : goal.logical-returns-then-is_refusal-2-clause-lowers
+unfolding lower_logical
+logical-returns-then-is_refusal-2-clause-lowers t c =
+    let tree = tree_of c.args.self.now.nodes.now c.args.self.now.list.now c.args.self.now.names.now in
+    let checked = c.args.self.now.checked in
+    let few = register_word _ c.is_refusal.ensures c.if-is_refusal.false c.value_of-d.ensures (c.destination-t.ensures.word c.requires.0.1) in
+    logical_of checked _ c.node_word-left.ensures c.node_word-right.ensures c.requires.1 _ _
+    (then_by tree _ register_at _ _ _ (c.destination-t.ensures.step tree _ _ _) c.is_refusal.ensures c.if-is_refusal.false c.value_of-d.ensures
+    (stop_branch _ checked few (c.peek_into-f1.ensures.done, (c.peek_into-f1.ensures.inner, c.peek_into-f1.ensures.same)) (c.lower_materializing-r1.ensures.walked, c.lower_materializing-r1.ensures.done) _ c.is_refusal-2.ensures (operand_at _) c.if-is_refusal-2.true))
+
+pub logical-returns-in_default-clause-lowers : goal.logical-returns-in_default-clause-lowers
+unfolding lower_logical
+logical-returns-in_default-clause-lowers t c =
+    let tree = tree_of c.args.self.now.nodes.now c.args.self.now.list.now c.args.self.now.names.now in
+    let checked = c.args.self.now.checked in
+    let few = register_word _ c.is_refusal.ensures c.if-is_refusal.false c.value_of-d.ensures (c.destination-t.ensures.word c.requires.0.1) in
+    let told = jump_words _ _ (c.logical_jump-jump.ensures.and, c.logical_jump-jump.ensures.or) c.requires.1 c.reg_of.ensures in
+    by_answer _ _ _ _ _ _ (c.refused.ensures.state, c.refused.ensures.answer)
+    (logical_of checked _ c.node_word-left.ensures c.node_word-right.ensures c.requires.1 _ _
+    (then_by tree _ register_at _ _ _ (c.destination-t.ensures.step tree _ _ _) c.is_refusal.ensures c.if-is_refusal.false c.value_of-d.ensures
+    (then_branch_lem _ checked few (c.peek_into-f1.ensures.done, (c.peek_into-f1.ensures.inner, c.peek_into-f1.ensures.same)) (c.lower_materializing-r1.ensures.walked, c.lower_materializing-r1.ensures.done) _ c.is_refusal-2.ensures c.if-is_refusal-2.false
+    (stop_emitted _ _ _ _ _ told c.emit_instruction-emitted.ensures.words (operand_at _) c.in_default.is))))
+
+pub logical-peek_into-f2-requires : goal.logical-peek_into-f2-requires
+logical-peek_into-f2-requires t c = (child_in _ _ _ c.requires.0.0 (logical_below c.args.self.now.checked _ c.node_word-left.ensures c.node_word-right.ensures c.requires.1).1, register_word _ c.is_refusal.ensures c.if-is_refusal.false c.value_of-d.ensures (c.destination-t.ensures.word c.requires.0.1))
+
+pub logical-lower_materializing-r2-requires : goal.logical-lower_materializing-r2-requires
+logical-lower_materializing-r2-requires t c =
+    let few = register_word _ c.is_refusal.ensures c.if-is_refusal.false c.value_of-d.ensures (c.destination-t.ensures.word c.requires.0.1) in
+    walk_in _ _ _ _ c.requires.0.0 (logical_below c.args.self.now.checked _ c.node_word-left.ensures c.node_word-right.ensures c.requires.1).1 (omega (arith, c.decreases)) (omega (arith, few)) (λ h. (c.peek_into-f2.ensures.inner h).1.0)
+
+pub logical-returns-then-is_refusal-3-clause-lowers : goal.logical-returns-then-is_refusal-3-clause-lowers
+unfolding lower_logical
+logical-returns-then-is_refusal-3-clause-lowers t c =
+    let tree = tree_of c.args.self.now.nodes.now c.args.self.now.list.now c.args.self.now.names.now in
+    let checked = c.args.self.now.checked in
+    let few = register_word _ c.is_refusal.ensures c.if-is_refusal.false c.value_of-d.ensures (c.destination-t.ensures.word c.requires.0.1) in
+    let told = jump_words _ _ (c.logical_jump-jump.ensures.and, c.logical_jump-jump.ensures.or) c.requires.1 c.reg_of.ensures in
+    logical_of checked _ c.node_word-left.ensures c.node_word-right.ensures c.requires.1 _ _
+    (then_by tree _ register_at _ _ _ (c.destination-t.ensures.step tree _ _ _) c.is_refusal.ensures c.if-is_refusal.false c.value_of-d.ensures
+    (then_branch_lem _ checked few (c.peek_into-f1.ensures.done, (c.peek_into-f1.ensures.inner, c.peek_into-f1.ensures.same)) (c.lower_materializing-r1.ensures.walked, c.lower_materializing-r1.ensures.done) _ c.is_refusal-2.ensures c.if-is_refusal-2.false
+    (then_emitted tree _ _ _ _ told c.emit_instruction-emitted.ensures.words c.in-Ok.is
+    (stop_branch _ checked few (c.peek_into-f2.ensures.done, (c.peek_into-f2.ensures.inner, c.peek_into-f2.ensures.same)) (c.lower_materializing-r2.ensures.walked, c.lower_materializing-r2.ensures.done) _ c.is_refusal-3.ensures (operand_at _) c.if-is_refusal-3.true))))
+
+pub logical-returns-clause-lowers : goal.logical-returns-clause-lowers
+unfolding lower_logical settled
+logical-returns-clause-lowers t c =
+    let tree = tree_of c.args.self.now.nodes.now c.args.self.now.list.now c.args.self.now.names.now in
+    let checked = c.args.self.now.checked in
+    let few = register_word _ c.is_refusal.ensures c.if-is_refusal.false c.value_of-d.ensures (c.destination-t.ensures.word c.requires.0.1) in
+    let told = jump_words _ _ (c.logical_jump-jump.ensures.and, c.logical_jump-jump.ensures.or) c.requires.1 c.reg_of.ensures in
+    by_answer _ _ _ _ _ _ (c.answered.ensures.state, c.answered.ensures.answer)
+    (logical_of checked _ c.node_word-left.ensures c.node_word-right.ensures c.requires.1 _ _
+    (then_by tree _ register_at _ _ _ (c.destination-t.ensures.step tree _ _ _) c.is_refusal.ensures c.if-is_refusal.false c.value_of-d.ensures
+    (then_branch_lem _ checked few (c.peek_into-f1.ensures.done, (c.peek_into-f1.ensures.inner, c.peek_into-f1.ensures.same)) (c.lower_materializing-r1.ensures.walked, c.lower_materializing-r1.ensures.done) _ c.is_refusal-2.ensures c.if-is_refusal-2.false
+    (then_emitted tree _ _ _ _ told c.emit_instruction-emitted.ensures.words c.in-Ok.is
+    (then_branch_lem _ checked few (c.peek_into-f2.ensures.done, (c.peek_into-f2.ensures.inner, c.peek_into-f2.ensures.same)) (c.lower_materializing-r2.ensures.walked, c.lower_materializing-r2.ensures.done) _ c.is_refusal-3.ensures c.if-is_refusal-3.false
+    (then_patched _ _ _ _ c.patch_to_next.ensures.words
+    (ended _ _ _ _ few)))))))
+
+-- ---- `lower_binary`: destination first, left, right; then two literals loaded, or the instruction and the operands' registers given back
+
+pub lower_binary-returns-then-is_refusal-clause-lowers : goal.lower_binary-returns-then-is_refusal-clause-lowers
+lower_binary-returns-then-is_refusal-clause-lowers t c =
+    let checked = c.args.self.now.checked in
+    operator_of checked _ c.requires.1 c.node_word-left.ensures c.node_word-right.ensures _ _
+    (stop_by _ _ register_at _ _ _ (c.destination-t.ensures.step _ _ _ _) (operand_at _) c.is_refusal.ensures c.if-is_refusal.true)
+
+pub lower_binary-peek-f1-requires : goal.lower_binary-peek-f1-requires
+lower_binary-peek-f1-requires t c = (child_in _ _ _ c.requires.0.0 (operator_below c.args.self.now.checked _ c.requires.1 c.node_word-left.ensures c.node_word-right.ensures).0, omega arith)
+
+pub lower_binary-lower_materializing-r1-requires : goal.lower_binary-lower_materializing-r1-requires
+lower_binary-lower_materializing-r1-requires t c = walk_in _ _ _ _ c.requires.0.0 (operator_below c.args.self.now.checked _ c.requires.1 c.node_word-left.ensures c.node_word-right.ensures).0 (omega (arith, c.decreases)) omega arith (λ h. omega (arith, (c.peek-f1.ensures.inner h).1.0))
+
+pub lower_binary-returns-then-is_refusal-2-clause-lowers : goal.lower_binary-returns-then-is_refusal-2-clause-lowers
+lower_binary-returns-then-is_refusal-2-clause-lowers t c =
+    let tree = tree_of c.args.self.now.nodes.now c.args.self.now.list.now c.args.self.now.names.now in
+    let checked = c.args.self.now.checked in
+    operator_of checked _ c.requires.1 c.node_word-left.ensures c.node_word-right.ensures _ _
+    (then_by tree _ register_at _ _ _ (c.destination-t.ensures.step tree _ _ _) c.is_refusal.ensures c.if-is_refusal.false c.value_of-d.ensures
+    (stop_by tree _ (operand_at _) _ _ _ (operand_of checked c.peek-f1.ensures.inner c.lower_materializing-r1.ensures.walked c.lower_materializing-r1.ensures.done (λ h. c.peek-f1.ensures.operand _ checked h refl)) (operand_at _) c.is_refusal-2.ensures c.if-is_refusal-2.true))
+
+pub lower_binary-peek-f2-requires : goal.lower_binary-peek-f2-requires
+lower_binary-peek-f2-requires t c = (child_in _ _ _ c.requires.0.0 (operator_below c.args.self.now.checked _ c.requires.1 c.node_word-left.ensures c.node_word-right.ensures).1, omega arith)
+
+pub lower_binary-lower_materializing-r2-requires : goal.lower_binary-lower_materializing-r2-requires
+lower_binary-lower_materializing-r2-requires t c = walk_in _ _ _ _ c.requires.0.0 (operator_below c.args.self.now.checked _ c.requires.1 c.node_word-left.ensures c.node_word-right.ensures).1 (omega (arith, c.decreases)) omega arith (λ h. omega (arith, (c.peek-f2.ensures.inner h).1.0))
+
+pub lower_binary-returns-then-is_refusal-3-clause-lowers : goal.lower_binary-returns-then-is_refusal-3-clause-lowers
+lower_binary-returns-then-is_refusal-3-clause-lowers t c =
+    let tree = tree_of c.args.self.now.nodes.now c.args.self.now.list.now c.args.self.now.names.now in
+    let checked = c.args.self.now.checked in
+    operator_of checked _ c.requires.1 c.node_word-left.ensures c.node_word-right.ensures _ _
+    (then_by tree _ register_at _ _ _ (c.destination-t.ensures.step tree _ _ _) c.is_refusal.ensures c.if-is_refusal.false c.value_of-d.ensures
+    (then_by tree _ (operand_at _) _ _ _ (operand_of checked c.peek-f1.ensures.inner c.lower_materializing-r1.ensures.walked c.lower_materializing-r1.ensures.done (λ h. c.peek-f1.ensures.operand _ checked h refl)) c.is_refusal-2.ensures c.if-is_refusal-2.false c.value_of-src1.ensures
+    (stop_by tree _ (operand_at _) _ _ _ (operand_of checked c.peek-f2.ensures.inner c.lower_materializing-r2.ensures.walked c.lower_materializing-r2.ensures.done (λ h. c.peek-f2.ensures.operand _ checked h refl)) (operand_at _) c.is_refusal-3.ensures c.if-is_refusal-3.true)))
+
+pub lower_binary-lower_literals-requires : goal.lower_binary-lower_literals-requires
+lower_binary-lower_literals-requires t c = (c.requires.0.0, c.requires.1)
+
+pub lower_binary-returns-then-src1-src2-clause-lowers : goal.lower_binary-returns-then-src1-src2-clause-lowers
+lower_binary-returns-then-src1-src2-clause-lowers t c =
+    let tree = tree_of c.args.self.now.nodes.now c.args.self.now.list.now c.args.self.now.names.now in
+    let checked = c.args.self.now.checked in
+    let few = register_word _ c.is_refusal.ensures c.if-is_refusal.false c.value_of-d.ensures (c.destination-t.ensures.word c.requires.0.1) in
+    let both = both_literal _ _ c.if-src1-src2.true in
+    let left_literal = word_literal tree _ None _ _ _ (operand_of checked c.peek-f1.ensures.inner c.lower_materializing-r1.ensures.walked c.lower_materializing-r1.ensures.done (λ h. c.peek-f1.ensures.operand _ checked h refl)) c.is_refusal-2.ensures c.if-is_refusal-2.false c.value_of-src1.ensures both.0 in
+    let right_literal = word_literal tree _ None _ _ _ (operand_of checked c.peek-f2.ensures.inner c.lower_materializing-r2.ensures.walked c.lower_materializing-r2.ensures.done (λ h. c.peek-f2.ensures.operand _ checked h refl)) c.is_refusal-3.ensures c.if-is_refusal-3.false c.value_of-src2.ensures both.1 in
+    operator_of checked _ c.requires.1 c.node_word-left.ensures c.node_word-right.ensures _ _
+    (then_by tree _ register_at _ _ _ (c.destination-t.ensures.step tree _ _ _) c.is_refusal.ensures c.if-is_refusal.false c.value_of-d.ensures
+    (then_by tree _ (operand_at _) _ _ _ (operand_of checked c.peek-f1.ensures.inner c.lower_materializing-r1.ensures.walked c.lower_materializing-r1.ensures.done (λ h. c.peek-f1.ensures.operand _ checked h refl)) c.is_refusal-2.ensures c.if-is_refusal-2.false c.value_of-src1.ensures
+    (then_by tree _ (operand_at _) _ _ _ (operand_of checked c.peek-f2.ensures.inner c.lower_materializing-r2.ensures.walked c.lower_materializing-r2.ensures.done (λ h. c.peek-f2.ensures.operand _ checked h refl)) c.is_refusal-3.ensures c.if-is_refusal-3.false c.value_of-src2.ensures
+    (then_literals tree _ c.node_word-left.ensures c.node_word-right.ensures _ _ _ _ both left_literal right_literal
+    (c.lower_literals.ensures.by_index _ _ ∙ given_operand _ _ _ _ _ (inr few) c.lower_literals.ensures.word)))))
+
+pub lower_binary-binary_operation-e-requires : goal.lower_binary-binary_operation-e-requires
+lower_binary-binary_operation-e-requires t c = (c.requires.0.0, c.requires.1)
+
+pub lower_binary-returns-then-is_refusal-4-clause-lowers : goal.lower_binary-returns-then-is_refusal-4-clause-lowers
+lower_binary-returns-then-is_refusal-4-clause-lowers t c =
+    let tree = tree_of c.args.self.now.nodes.now c.args.self.now.list.now c.args.self.now.names.now in
+    let checked = c.args.self.now.checked in
+    operator_of checked _ c.requires.1 c.node_word-left.ensures c.node_word-right.ensures _ _
+    (then_by tree _ register_at _ _ _ (c.destination-t.ensures.step tree _ _ _) c.is_refusal.ensures c.if-is_refusal.false c.value_of-d.ensures
+    (then_by tree _ (operand_at _) _ _ _ (operand_of checked c.peek-f1.ensures.inner c.lower_materializing-r1.ensures.walked c.lower_materializing-r1.ensures.done (λ h. c.peek-f1.ensures.operand _ checked h refl)) c.is_refusal-2.ensures c.if-is_refusal-2.false c.value_of-src1.ensures
+    (then_by tree _ (operand_at _) _ _ _ (operand_of checked c.peek-f2.ensures.inner c.lower_materializing-r2.ensures.walked c.lower_materializing-r2.ensures.done (λ h. c.peek-f2.ensures.operand _ checked h refl)) c.is_refusal-3.ensures c.if-is_refusal-3.false c.value_of-src2.ensures
+    (then_operator tree _ c.node_word-left.ensures c.node_word-right.ensures _ _ _ _ c.if-src1-src2.false
+    (stop_by _ _ _ _ _ _ (c.binary_operation-e.ensures.step _ _ _ c.if-src1-src2.false) (operand_at _) c.is_refusal-4.ensures c.if-is_refusal-4.true)))))
+
+pub lower_binary-returns-clause-lowers : goal.lower_binary-returns-clause-lowers
+unfolding settled
+lower_binary-returns-clause-lowers t c =
+    let tree = tree_of c.args.self.now.nodes.now c.args.self.now.list.now c.args.self.now.names.now in
+    let checked = c.args.self.now.checked in
+    let few = register_word _ c.is_refusal.ensures c.if-is_refusal.false c.value_of-d.ensures (c.destination-t.ensures.word c.requires.0.1) in
+    by_answer _ _ _ _ _ _ (c.answered.ensures.state, c.answered.ensures.answer)
+    (operator_of checked _ c.requires.1 c.node_word-left.ensures c.node_word-right.ensures _ _
+    (then_by tree _ register_at _ _ _ (c.destination-t.ensures.step tree _ _ _) c.is_refusal.ensures c.if-is_refusal.false c.value_of-d.ensures
+    (then_by tree _ (operand_at _) _ _ _ (operand_of checked c.peek-f1.ensures.inner c.lower_materializing-r1.ensures.walked c.lower_materializing-r1.ensures.done (λ h. c.peek-f1.ensures.operand _ checked h refl)) c.is_refusal-2.ensures c.if-is_refusal-2.false c.value_of-src1.ensures
+    (then_by tree _ (operand_at _) _ _ _ (operand_of checked c.peek-f2.ensures.inner c.lower_materializing-r2.ensures.walked c.lower_materializing-r2.ensures.done (λ h. c.peek-f2.ensures.operand _ checked h refl)) c.is_refusal-3.ensures c.if-is_refusal-3.false c.value_of-src2.ensures
+    (then_operator tree _ c.node_word-left.ensures c.node_word-right.ensures _ _ _ _ c.if-src1-src2.false
+    (then _ _ _ _ _ _ (c.binary_operation-e.ensures.step _ _ _ c.if-src1-src2.false) (sym c.is_refusal-4.ensures ∙ c.if-is_refusal-4.false)
+    (then_freed_source _ _ _ _ c.give_back-held1.ensures
+    (then_freed_source _ _ _ _ c.give_back-held2.ensures
+    (ended _ _ _ _ few)))))))))
+
+-- ---- `lower_block`: destination, then the tail or nil
+
+pub lower_block-returns-then-is_refusal-clause-lowers : goal.lower_block-returns-then-is_refusal-clause-lowers
+unfolding lower_node
+lower_block-returns-then-is_refusal-clause-lowers t c =
+    let checked = c.args.self.now.checked in
+    expression_of checked _ block_kind c.requires.1 _ _
+    (stop_by _ _ register_at _ _ _ (c.destination-t.ensures.step _ _ _ _) (operand_at _) c.is_refusal.ensures c.if-is_refusal.true)
+
+pub lower_block-returns-then-is_refusal-2-clause-lowers : goal.lower_block-returns-then-is_refusal-2-clause-lowers
+unfolding lower_node lower_tail
+lower_block-returns-then-is_refusal-2-clause-lowers t c =
+    let tree = tree_of c.args.self.now.nodes.now c.args.self.now.list.now c.args.self.now.names.now in
+    let checked = c.args.self.now.checked in
+    let few = register_word _ c.is_refusal.ensures c.if-is_refusal.false c.value_of-d.ensures (c.destination-t.ensures.word c.requires.0.1) in
+    let absent_tail = eq-eqb _ _ (sym c.node_word-tail.ensures ∙ c.if-tail.true) in
+    let given = dest_of_to c.value_of-d.result (omega (arith, few)) in
+    expression_of checked _ block_kind c.requires.1 _ _
+    (then_by tree _ register_at _ _ _ (c.destination-t.ensures.step tree _ _ _) c.is_refusal.ensures c.if-is_refusal.false c.value_of-d.ensures
+    (rw (absent_tail, ← given) (stop_by tree _ register_at _ _ _ (c.load_constant-r.ensures.step tree _) (operand_at _) c.is_refusal-then-tail.ensures c.if-is_refusal-2.true)))
+
+pub lower_block-returns-then-tail-clause-lowers : goal.lower_block-returns-then-tail-clause-lowers
+unfolding lower_node lower_tail settled
+lower_block-returns-then-tail-clause-lowers t c =
+    let tree = tree_of c.args.self.now.nodes.now c.args.self.now.list.now c.args.self.now.names.now in
+    let checked = c.args.self.now.checked in
+    let few = register_word _ c.is_refusal.ensures c.if-is_refusal.false c.value_of-d.ensures (c.destination-t.ensures.word c.requires.0.1) in
+    let absent_tail = eq-eqb _ _ (sym c.node_word-tail.ensures ∙ c.if-tail.true) in
+    let given = dest_of_to c.value_of-d.result (omega (arith, few)) in
+    by_answer _ _ _ _ _ _ (c.answered.ensures.state, c.answered.ensures.answer)
+    (expression_of checked _ block_kind c.requires.1 _ _
+    (then_by tree _ register_at _ _ _ (c.destination-t.ensures.step tree _ _ _) c.is_refusal.ensures c.if-is_refusal.false c.value_of-d.ensures
+    (rw (absent_tail, ← given) (then tree _ register_at _ _ _ (c.load_constant-r.ensures.step tree _) (sym c.is_refusal-then-tail.ensures ∙ c.if-is_refusal-2.false)
+    (ended _ _ _ _ few)))))
+
+pub lower_block-peek_into-f1-requires : goal.lower_block-peek_into-f1-requires
+lower_block-peek_into-f1-requires t c =
+    let below = rw (← c.node_word-tail.ensures) at (below_of c.args.self.now.checked _ block_kind c.requires.1) in
+    (child_in _ _ _ c.requires.0.0 (below c.if-tail.false), register_word _ c.is_refusal.ensures c.if-is_refusal.false c.value_of-d.ensures (c.destination-t.ensures.word c.requires.0.1))
+
+pub lower_block-lower_materializing-r1-requires : goal.lower_block-lower_materializing-r1-requires
+lower_block-lower_materializing-r1-requires t c =
+    let few = register_word _ c.is_refusal.ensures c.if-is_refusal.false c.value_of-d.ensures (c.destination-t.ensures.word c.requires.0.1) in
+    let below = rw (← c.node_word-tail.ensures) at (below_of c.args.self.now.checked _ block_kind c.requires.1) in
+    walk_in _ _ _ _ c.requires.0.0 (below c.if-tail.false) (omega (arith, c.decreases)) (omega (arith, few)) (λ h. (c.peek_into-f1.ensures.inner h).1.0)
+
+pub lower_block-returns-then-is_refusal-3-clause-lowers : goal.lower_block-returns-then-is_refusal-3-clause-lowers
+unfolding lower_node lower_tail
+lower_block-returns-then-is_refusal-3-clause-lowers t c =
+    let tree = tree_of c.args.self.now.nodes.now c.args.self.now.list.now c.args.self.now.names.now in
+    let checked = c.args.self.now.checked in
+    let few = register_word _ c.is_refusal.ensures c.if-is_refusal.false c.value_of-d.ensures (c.destination-t.ensures.word c.requires.0.1) in
+    let some_tail = ne_eqb _ _ (rw c.node_word-tail.ensures at c.if-tail.false) in
+    let tried = c.peek_into-f1.ensures in
+    let walked = c.lower_materializing-r1.ensures in
+    let tail = rw c.node_word-tail.ensures at (into_of checked few tried.inner (λ e m h. tried.same _ e m checked h) walked.walked walked.done (λ h. tried.done _ checked h)) in
+    expression_of checked _ block_kind c.requires.1 _ _
+    (then_by tree _ register_at _ _ _ (c.destination-t.ensures.step tree _ _ _) c.is_refusal.ensures c.if-is_refusal.false c.value_of-d.ensures
+    (rw some_tail (stop_by tree _ register_at _ _ _ tail (operand_at _) c.is_refusal-2.ensures c.if-is_refusal-3.true)))
+
+pub lower_block-returns-clause-lowers : goal.lower_block-returns-clause-lowers
+unfolding lower_node lower_tail settled
+lower_block-returns-clause-lowers t c =
+    let tree = tree_of c.args.self.now.nodes.now c.args.self.now.list.now c.args.self.now.names.now in
+    let checked = c.args.self.now.checked in
+    let few = register_word _ c.is_refusal.ensures c.if-is_refusal.false c.value_of-d.ensures (c.destination-t.ensures.word c.requires.0.1) in
+    let some_tail = ne_eqb _ _ (rw c.node_word-tail.ensures at c.if-tail.false) in
+    let tried = c.peek_into-f1.ensures in
+    let walked = c.lower_materializing-r1.ensures in
+    let tail = rw c.node_word-tail.ensures at (into_of checked few tried.inner (λ e m h. tried.same _ e m checked h) walked.walked walked.done (λ h. tried.done _ checked h)) in
+    by_answer _ _ _ _ _ _ (c.answered-2.ensures.state, c.answered-2.ensures.answer)
+    (expression_of checked _ block_kind c.requires.1 _ _
+    (then_by tree _ register_at _ _ _ (c.destination-t.ensures.step tree _ _ _) c.is_refusal.ensures c.if-is_refusal.false c.value_of-d.ensures
+    (rw some_tail (then tree _ register_at _ _ _ tail (sym c.is_refusal-2.ensures ∙ c.if-is_refusal-3.false)
+    (ended _ _ _ _ few)))))
+
+-- ---- `lower_call`: the arguments, destination, callee, one instruction, and the callee's register given back
+
+pub lower_call-returns-then-is_refusal-clause-lowers : goal.lower_call-returns-then-is_refusal-clause-lowers
+unfolding lower_node
+lower_call-returns-then-is_refusal-clause-lowers t c =
+    let checked = c.args.self.now.checked in
+    call_of checked _ c.requires.1 c.node_word-callee.ensures _ _
+    (stop_by _ _ unit_at _ _ _ c.arguments-a.ensures.lowers (operand_at _) c.is_refusal.ensures c.if-is_refusal.true)
+
+pub lower_call-returns-then-is_refusal-2-clause-lowers : goal.lower_call-returns-then-is_refusal-2-clause-lowers
+unfolding lower_node
+lower_call-returns-then-is_refusal-2-clause-lowers t c =
+    let tree = tree_of c.args.self.now.nodes.now c.args.self.now.list.now c.args.self.now.names.now in
+    let checked = c.args.self.now.checked in
+    call_of checked _ c.requires.1 c.node_word-callee.ensures _ _
+    (then_by tree _ unit_at _ _ _ c.arguments-a.ensures.lowers c.is_refusal.ensures c.if-is_refusal.false refl
+    (stop_by _ _ register_at _ _ _ (c.destination-t.ensures.step _ _ _ _) (operand_at _) c.is_refusal-2.ensures c.if-is_refusal-2.true))
+
+pub lower_call-peek-f1-requires : goal.lower_call-peek-f1-requires
+lower_call-peek-f1-requires t c = (child_in _ _ _ c.requires.0.0 (call_below c.args.self.now.checked _ c.requires.1 c.node_word-callee.ensures refl refl).callee, omega arith)
+
+pub lower_call-lower_materializing-r1-requires : goal.lower_call-lower_materializing-r1-requires
+lower_call-lower_materializing-r1-requires t c = walk_in _ _ _ _ c.requires.0.0 (call_below c.args.self.now.checked _ c.requires.1 c.node_word-callee.ensures refl refl).callee (omega (arith, c.decreases)) omega arith (λ h. omega (arith, (c.peek-f1.ensures.inner h).1.0))
+
+pub lower_call-returns-then-is_refusal-3-clause-lowers : goal.lower_call-returns-then-is_refusal-3-clause-lowers
+unfolding lower_node
+lower_call-returns-then-is_refusal-3-clause-lowers t c =
+    let tree = tree_of c.args.self.now.nodes.now c.args.self.now.list.now c.args.self.now.names.now in
+    let checked = c.args.self.now.checked in
+    call_of checked _ c.requires.1 c.node_word-callee.ensures _ _
+    (then_by tree _ unit_at _ _ _ c.arguments-a.ensures.lowers c.is_refusal.ensures c.if-is_refusal.false refl
+    (then_by tree _ register_at _ _ _ (c.destination-t.ensures.step tree _ _ _) c.is_refusal-2.ensures c.if-is_refusal-2.false c.value_of-d.ensures
+    (stop_by _ _ register_at _ _ _ (register_of checked c.peek-f1.ensures.inner c.lower_materializing-r1.ensures.walked c.lower_materializing-r1.ensures.done (λ h. c.peek-f1.ensures.register _ checked h refl)) (operand_at _) c.is_refusal-3.ensures c.if-is_refusal-3.true)))
+
+pub lower_call-returns-in_default-clause-lowers : goal.lower_call-returns-in_default-clause-lowers
+unfolding lower_node words_of
+lower_call-returns-in_default-clause-lowers t c =
+    let tree = tree_of c.args.self.now.nodes.now c.args.self.now.list.now c.args.self.now.names.now in
+    let checked = c.args.self.now.checked in
+    let told = same_fields _ c.reg_of.ensures c.reg_of-2.ensures c.node_word-count.ensures in
+    by_answer _ _ _ _ _ _ (c.refused.ensures.state, c.refused.ensures.answer)
+    (call_of checked _ c.requires.1 c.node_word-callee.ensures _ _
+    (then_by tree _ unit_at _ _ _ c.arguments-a.ensures.lowers c.is_refusal.ensures c.if-is_refusal.false refl
+    (then_by tree _ register_at _ _ _ (c.destination-t.ensures.step tree _ _ _) c.is_refusal-2.ensures c.if-is_refusal-2.false c.value_of-d.ensures
+    (then_by tree _ register_at _ _ _ (register_of checked c.peek-f1.ensures.inner c.lower_materializing-r1.ensures.walked c.lower_materializing-r1.ensures.done (λ h. c.peek-f1.ensures.register _ checked h refl)) c.is_refusal-3.ensures c.if-is_refusal-3.false c.value_of-src.ensures
+    (stop_emitted _ _ _ _ _ told c.emit_instruction-emitted.ensures.words (operand_at _) c.in_default.is)))))
+
+pub lower_call-returns-clause-lowers : goal.lower_call-returns-clause-lowers
+unfolding lower_node words_of settled
+lower_call-returns-clause-lowers t c =
+    let tree = tree_of c.args.self.now.nodes.now c.args.self.now.list.now c.args.self.now.names.now in
+    let checked = c.args.self.now.checked in
+    let few = register_word _ c.is_refusal-2.ensures c.if-is_refusal-2.false c.value_of-d.ensures (c.destination-t.ensures.word c.requires.0.1) in
+    let told = same_fields _ c.reg_of.ensures c.reg_of-2.ensures c.node_word-count.ensures in
+    by_answer _ _ _ _ _ _ (c.answered.ensures.state, c.answered.ensures.answer)
+    (call_of checked _ c.requires.1 c.node_word-callee.ensures _ _
+    (then_by tree _ unit_at _ _ _ c.arguments-a.ensures.lowers c.is_refusal.ensures c.if-is_refusal.false refl
+    (then_by tree _ register_at _ _ _ (c.destination-t.ensures.step tree _ _ _) c.is_refusal-2.ensures c.if-is_refusal-2.false c.value_of-d.ensures
+    (then_by tree _ register_at _ _ _ (register_of checked c.peek-f1.ensures.inner c.lower_materializing-r1.ensures.walked c.lower_materializing-r1.ensures.done (λ h. c.peek-f1.ensures.register _ checked h refl)) c.is_refusal-3.ensures c.if-is_refusal-3.false c.value_of-src.ensures
+    (then_emitted tree _ _ _ _ told c.emit_instruction-emitted.ensures.words c.in-Ok.is
+    (then_freed _ _ _ c.give_back-held1.ensures
+    (ended _ _ _ _ few)))))))
+
+-- ---- `lower_expression`: each kind goes to its arm, a literal is left as it is
+
+pub lower_expression-returns-then-kind-lt-IDENTIFIER-clause-lowers : goal.lower_expression-returns-then-kind-lt-IDENTIFIER-clause-lowers
+lower_expression-returns-then-kind-lt-IDENTIFIER-clause-lowers t c =
+    rw (c.answered.ensures.state, c.answered.ensures.answer)
+    (literal_left c.args.self.now.checked c.args.node (omega (arith, c.node_word-kind.ensures, c.if-kind-lt-IDENTIFIER.true)) (dest_of c.args.dest) _)
+
+pub lower_expression-lower_map-requires : goal.lower_expression-lower_map-requires
+lower_expression-lower_map-requires t c =
+    let over = past c.node_word-kind.result c.if-kind.false c.if-kind-le-LOGICAL_NOT.false in
+    let known = kind_word (checked_at c.args.self.now.checked c.args.node) in
+    (omega (arith, c.decreases), (c.requires, omega (arith, c.node_word-kind.ensures, over, known)))
+
+-- ---- `lower_if`: the condition, destination, the branch, its jump, the patch, the other branch, the second patch
+
+pub lower_if-lower_jump_if_false-r-requires : goal.lower_if-lower_jump_if_false-r-requires
+lower_if-lower_jump_if_false-r-requires t c =
+    let lower = (if_below c.args.self.now.checked _ c.requires.1 c.node_word-condition.ensures c.node_word-then_branch.ensures c.node_word-else_branch.ensures).condition in
+    (omega (arith, c.decreases, lower), omega (arith, c.requires.0.0, lower))
+
+pub lower_if-returns-then-is_refusal-clause-lowers : goal.lower_if-returns-then-is_refusal-clause-lowers
+unfolding lower_node
+lower_if-returns-then-is_refusal-clause-lowers t c =
+    let checked = c.args.self.now.checked in
+    if_of checked _ c.requires.1 c.node_word-condition.ensures c.node_word-then_branch.ensures c.node_word-else_branch.ensures _ _
+    (stop_by _ _ place_at _ _ _ c.lower_jump_if_false-r.ensures.lowers (operand_at _) c.is_refusal.ensures c.if-is_refusal.true)
+
+pub lower_if-returns-then-is_refusal-2-clause-lowers : goal.lower_if-returns-then-is_refusal-2-clause-lowers
+unfolding lower_node
+lower_if-returns-then-is_refusal-2-clause-lowers t c =
+    let tree = tree_of c.args.self.now.nodes.now c.args.self.now.list.now c.args.self.now.names.now in
+    let checked = c.args.self.now.checked in
+    if_of checked _ c.requires.1 c.node_word-condition.ensures c.node_word-then_branch.ensures c.node_word-else_branch.ensures _ _
+    (then_by tree _ place_at _ _ _ c.lower_jump_if_false-r.ensures.lowers c.is_refusal.ensures c.if-is_refusal.false c.value_of-jump_if_false.ensures
+    (stop_by _ _ register_at _ _ _ (c.destination-t.ensures.step _ _ _ _) (operand_at _) c.is_refusal-2.ensures c.if-is_refusal-2.true))
+
+pub lower_if-peek_into-f1-requires : goal.lower_if-peek_into-f1-requires
+lower_if-peek_into-f1-requires t c = (child_in _ _ _ c.requires.0.0 (if_below c.args.self.now.checked _ c.requires.1 c.node_word-condition.ensures c.node_word-then_branch.ensures c.node_word-else_branch.ensures).then, register_word _ c.is_refusal-2.ensures c.if-is_refusal-2.false c.value_of-d.ensures (c.destination-t.ensures.word c.requires.0.1))
+
+pub lower_if-lower_materializing-r1-requires : goal.lower_if-lower_materializing-r1-requires
+lower_if-lower_materializing-r1-requires t c =
+    let few = register_word _ c.is_refusal-2.ensures c.if-is_refusal-2.false c.value_of-d.ensures (c.destination-t.ensures.word c.requires.0.1) in
+    walk_in _ _ _ _ c.requires.0.0 (if_below c.args.self.now.checked _ c.requires.1 c.node_word-condition.ensures c.node_word-then_branch.ensures c.node_word-else_branch.ensures).then (omega (arith, c.decreases)) (omega (arith, few)) (λ h. (c.peek_into-f1.ensures.inner h).1.0)
+
+pub lower_if-returns-then-is_refusal-3-clause-lowers : goal.lower_if-returns-then-is_refusal-3-clause-lowers
+unfolding lower_node
+lower_if-returns-then-is_refusal-3-clause-lowers t c =
+    let tree = tree_of c.args.self.now.nodes.now c.args.self.now.list.now c.args.self.now.names.now in
+    let checked = c.args.self.now.checked in
+    let few = register_word _ c.is_refusal-2.ensures c.if-is_refusal-2.false c.value_of-d.ensures (c.destination-t.ensures.word c.requires.0.1) in
+    if_of checked _ c.requires.1 c.node_word-condition.ensures c.node_word-then_branch.ensures c.node_word-else_branch.ensures _ _
+    (then_by tree _ place_at _ _ _ c.lower_jump_if_false-r.ensures.lowers c.is_refusal.ensures c.if-is_refusal.false c.value_of-jump_if_false.ensures
+    (then_by tree _ register_at _ _ _ (c.destination-t.ensures.step tree _ _ _) c.is_refusal-2.ensures c.if-is_refusal-2.false c.value_of-d.ensures
+    (stop_branch _ checked few (c.peek_into-f1.ensures.done, (c.peek_into-f1.ensures.inner, c.peek_into-f1.ensures.same)) (c.lower_materializing-r1.ensures.walked, c.lower_materializing-r1.ensures.done) _ c.is_refusal-3.ensures (operand_at _) c.if-is_refusal-3.true)))
+
+pub lower_if-returns-in_default-clause-lowers : goal.lower_if-returns-in_default-clause-lowers
+unfolding lower_node words_of
+lower_if-returns-in_default-clause-lowers t c =
+    let tree = tree_of c.args.self.now.nodes.now c.args.self.now.list.now c.args.self.now.names.now in
+    let checked = c.args.self.now.checked in
+    let few = register_word _ c.is_refusal-2.ensures c.if-is_refusal-2.false c.value_of-d.ensures (c.destination-t.ensures.word c.requires.0.1) in
+    by_answer _ _ _ _ _ _ (c.refused.ensures.state, c.refused.ensures.answer)
+    (if_of checked _ c.requires.1 c.node_word-condition.ensures c.node_word-then_branch.ensures c.node_word-else_branch.ensures _ _
+    (then_by tree _ place_at _ _ _ c.lower_jump_if_false-r.ensures.lowers c.is_refusal.ensures c.if-is_refusal.false c.value_of-jump_if_false.ensures
+    (then_by tree _ register_at _ _ _ (c.destination-t.ensures.step tree _ _ _) c.is_refusal-2.ensures c.if-is_refusal-2.false c.value_of-d.ensures
+    (then_branch_lem _ checked few (c.peek_into-f1.ensures.done, (c.peek_into-f1.ensures.inner, c.peek_into-f1.ensures.same)) (c.lower_materializing-r1.ensures.walked, c.lower_materializing-r1.ensures.done) _ c.is_refusal-3.ensures c.if-is_refusal-3.false
+    (stop_emitted _ _ _ _ _ refl c.emit_instruction-emitted.ensures.words (operand_at _) c.in_default.is)))))
+
+pub lower_if-returns-then-else_branch-clause-lowers : goal.lower_if-returns-then-else_branch-clause-lowers
+unfolding lower_node words_of
+lower_if-returns-then-else_branch-clause-lowers t c =
+    let tree = tree_of c.args.self.now.nodes.now c.args.self.now.list.now c.args.self.now.names.now in
+    let checked = c.args.self.now.checked in
+    let few = register_word _ c.is_refusal-2.ensures c.if-is_refusal-2.false c.value_of-d.ensures (c.destination-t.ensures.word c.requires.0.1) in
+    by_answer _ _ _ _ _ _ (c.refused-then-else_branch.ensures.state, c.refused-then-else_branch.ensures.answer)
+    (if_of checked _ c.requires.1 c.node_word-condition.ensures c.node_word-then_branch.ensures c.node_word-else_branch.ensures _ _
+    (then_by tree _ place_at _ _ _ c.lower_jump_if_false-r.ensures.lowers c.is_refusal.ensures c.if-is_refusal.false c.value_of-jump_if_false.ensures
+    (then_by tree _ register_at _ _ _ (c.destination-t.ensures.step tree _ _ _) c.is_refusal-2.ensures c.if-is_refusal-2.false c.value_of-d.ensures
+    (then_branch_lem _ checked few (c.peek_into-f1.ensures.done, (c.peek_into-f1.ensures.inner, c.peek_into-f1.ensures.same)) (c.lower_materializing-r1.ensures.walked, c.lower_materializing-r1.ensures.done) _ c.is_refusal-3.ensures c.if-is_refusal-3.false
+    (then_emitted tree _ _ _ _ refl c.emit_instruction-emitted.ensures.words c.in-Ok.is
+    (then_patched _ _ _ _ c.patch_to_next.ensures.words
+    (stop_else _ _ _ _ _ _ (operand_at _) c.if-else_branch.true (omega (arith, c.ranges.node)))))))))
+
+pub lower_if-peek_into-f2-requires : goal.lower_if-peek_into-f2-requires
+lower_if-peek_into-f2-requires t c = (child_in _ _ _ c.requires.0.0 ((if_below c.args.self.now.checked _ c.requires.1 c.node_word-condition.ensures c.node_word-then_branch.ensures c.node_word-else_branch.ensures).else c.if-else_branch.false), register_word _ c.is_refusal-2.ensures c.if-is_refusal-2.false c.value_of-d.ensures (c.destination-t.ensures.word c.requires.0.1))
+
+pub lower_if-lower_materializing-r2-requires : goal.lower_if-lower_materializing-r2-requires
+lower_if-lower_materializing-r2-requires t c =
+    let few = register_word _ c.is_refusal-2.ensures c.if-is_refusal-2.false c.value_of-d.ensures (c.destination-t.ensures.word c.requires.0.1) in
+    walk_in _ _ _ _ c.requires.0.0 ((if_below c.args.self.now.checked _ c.requires.1 c.node_word-condition.ensures c.node_word-then_branch.ensures c.node_word-else_branch.ensures).else c.if-else_branch.false) (omega (arith, c.decreases)) (omega (arith, few)) (λ h. (c.peek_into-f2.ensures.inner h).1.0)
+
+pub lower_if-returns-then-is_refusal-4-clause-lowers : goal.lower_if-returns-then-is_refusal-4-clause-lowers
+unfolding lower_node words_of
+lower_if-returns-then-is_refusal-4-clause-lowers t c =
+    let tree = tree_of c.args.self.now.nodes.now c.args.self.now.list.now c.args.self.now.names.now in
+    let checked = c.args.self.now.checked in
+    let few = register_word _ c.is_refusal-2.ensures c.if-is_refusal-2.false c.value_of-d.ensures (c.destination-t.ensures.word c.requires.0.1) in
+    if_of checked _ c.requires.1 c.node_word-condition.ensures c.node_word-then_branch.ensures c.node_word-else_branch.ensures _ _
+    (then_by tree _ place_at _ _ _ c.lower_jump_if_false-r.ensures.lowers c.is_refusal.ensures c.if-is_refusal.false c.value_of-jump_if_false.ensures
+    (then_by tree _ register_at _ _ _ (c.destination-t.ensures.step tree _ _ _) c.is_refusal-2.ensures c.if-is_refusal-2.false c.value_of-d.ensures
+    (then_branch_lem _ checked few (c.peek_into-f1.ensures.done, (c.peek_into-f1.ensures.inner, c.peek_into-f1.ensures.same)) (c.lower_materializing-r1.ensures.walked, c.lower_materializing-r1.ensures.done) _ c.is_refusal-3.ensures c.if-is_refusal-3.false
+    (then_emitted tree _ _ _ _ refl c.emit_instruction-emitted.ensures.words c.in-Ok.is
+    (then_patched _ _ _ _ c.patch_to_next.ensures.words
+    (then_else _ _ _ _ _ _ c.if-else_branch.false
+    (stop_branch _ checked few (c.peek_into-f2.ensures.done, (c.peek_into-f2.ensures.inner, c.peek_into-f2.ensures.same)) (c.lower_materializing-r2.ensures.walked, c.lower_materializing-r2.ensures.done) _ c.is_refusal-4.ensures (operand_at _) c.if-is_refusal-4.true)))))))
+
+pub lower_if-returns-clause-lowers : goal.lower_if-returns-clause-lowers
+unfolding lower_node words_of settled
+lower_if-returns-clause-lowers t c =
+    let tree = tree_of c.args.self.now.nodes.now c.args.self.now.list.now c.args.self.now.names.now in
+    let checked = c.args.self.now.checked in
+    let few = register_word _ c.is_refusal-2.ensures c.if-is_refusal-2.false c.value_of-d.ensures (c.destination-t.ensures.word c.requires.0.1) in
+    by_answer _ _ _ _ _ _ (c.answered.ensures.state, c.answered.ensures.answer)
+    (if_of checked _ c.requires.1 c.node_word-condition.ensures c.node_word-then_branch.ensures c.node_word-else_branch.ensures _ _
+    (then_by tree _ place_at _ _ _ c.lower_jump_if_false-r.ensures.lowers c.is_refusal.ensures c.if-is_refusal.false c.value_of-jump_if_false.ensures
+    (then_by tree _ register_at _ _ _ (c.destination-t.ensures.step tree _ _ _) c.is_refusal-2.ensures c.if-is_refusal-2.false c.value_of-d.ensures
+    (then_branch_lem _ checked few (c.peek_into-f1.ensures.done, (c.peek_into-f1.ensures.inner, c.peek_into-f1.ensures.same)) (c.lower_materializing-r1.ensures.walked, c.lower_materializing-r1.ensures.done) _ c.is_refusal-3.ensures c.if-is_refusal-3.false
+    (then_emitted tree _ _ _ _ refl c.emit_instruction-emitted.ensures.words c.in-Ok.is
+    (then_patched _ _ _ _ c.patch_to_next.ensures.words
+    (then_else _ _ _ _ _ _ c.if-else_branch.false
+    (then_branch_lem _ checked few (c.peek_into-f2.ensures.done, (c.peek_into-f2.ensures.inner, c.peek_into-f2.ensures.same)) (c.lower_materializing-r2.ensures.walked, c.lower_materializing-r2.ensures.done) _ c.is_refusal-4.ensures c.if-is_refusal-4.false
+    (then_patched _ _ _ _ c.patch_to_next-2.ensures.words
+    (ended _ _ _ _ few))))))))))
+
+-- ---- `lower_jump_if_false`: a node that was tried is done, or it is walked as a comparison or tested
+
+pub lower_jump_if_false-peek_jump-f-requires : goal.lower_jump_if_false-peek_jump-f-requires
+lower_jump_if_false-peek_jump-f-requires t c = c.requires
+
+pub lower_jump_if_false-returns-then-is_compared-clause-lowers : goal.lower_jump_if_false-returns-then-is_compared-clause-lowers
+lower_jump_if_false-returns-then-is_compared-clause-lowers t c =
+    let same = c.peek_jump-f.ensures.inner (sym c.is_inner.ensures ∙ c.if-is_inner.true) in
+    rw (jump_false_at c.args.self.now.checked c.args.node) (rw (same.1.0, same.1.1.0, same.1.1.1) at c.fuse.ensures.lowers)
+
+pub lower_jump_if_false-returns-then-is_inner-clause-lowers : goal.lower_jump_if_false-returns-then-is_inner-clause-lowers
+lower_jump_if_false-returns-then-is_inner-clause-lowers t c =
+    let same = c.peek_jump-f.ensures.inner (sym c.is_inner.ensures ∙ c.if-is_inner.true) in
+    rw (jump_false_at c.args.self.now.checked c.args.node, not_compared _ _ _ _ _ (sym c.is_compared.ensures ∙ c.if-is_compared.false))
+    (rw (same.1.0, same.1.1.0, same.1.1.1) at c.test.ensures.lowers)
+
+pub lower_jump_if_false-returns-clause-lowers : goal.lower_jump_if_false-returns-clause-lowers
+lower_jump_if_false-returns-clause-lowers t c = rw (jump_false_at c.args.self.now.checked c.args.node) (c.peek_jump-f.ensures.step _ c.args.self.now.checked (sym c.is_inner.ensures ∙ c.if-is_inner.false))
+
+-- ---- `lower_map`: destination, CreateMap, and entry by entry
+
+pub lower_map-returns-then-is_refusal-clause-lowers : goal.lower_map-returns-then-is_refusal-clause-lowers
+unfolding lower_node
+lower_map-returns-then-is_refusal-clause-lowers t c =
+    let checked = c.args.self.now.checked in
+    expression_of checked _ map_kind c.requires.1 _ _
+    (stop_by _ _ register_at _ _ _ (c.destination-t.ensures.step _ _ _ _) (operand_at _) c.is_refusal.ensures c.if-is_refusal.true)
+
+pub lower_map-returns-in_default-clause-lowers : goal.lower_map-returns-in_default-clause-lowers
+unfolding lower_node words_of
+lower_map-returns-in_default-clause-lowers t c =
+    let tree = tree_of c.args.self.now.nodes.now c.args.self.now.list.now c.args.self.now.names.now in
+    let checked = c.args.self.now.checked in
+    let emitted = rw c.reg_of.ensures at c.emit_instruction-emitted.ensures.words in
+    rw (c.refused.ensures.state, c.refused.ensures.answer)
+    (expression_of checked _ map_kind c.requires.1 _ _
+    (then_by tree _ register_at _ _ _ (c.destination-t.ensures.step tree _ _ _) c.is_refusal.ensures c.if-is_refusal.false c.value_of-d.ensures
+    (stop_emitted _ _ _ _ _ refl emitted (operand_at _) c.in_default.is)))
+
+pub lower_map-loop-i-init : goal.lower_map-loop-i-init
+lower_map-loop-i-init t c = (omega arith, (rw (sub-zero _), search rules))
+
+pub lower_map-flat_entry-f-requires : goal.lower_map-flat_entry-f-requires
+lower_map-flat_entry-f-requires t c =
+    let below = rw (← c.node_word-first.ensures, ← c.node_word-count.ensures) at (below_of c.args.self.now.checked _ map_kind c.requires.1) in
+    let taken = c.loop-i-test.true in
+    let inside = c.requires.0.0 in (
+      rw c.word-key.ensures (omega (arith, inside, below.key c.loop-i.i taken)),
+      (λ h. rw c.word-value.ensures (omega (arith, inside, below.value c.loop-i.i taken (rw c.word-value.ensures at h)))),
+    )
+
+-- an entry that is left to the walk: nothing was done, and it has a value
+pub lower_map-entry-r-requires : goal.lower_map-entry-r-requires
+lower_map-entry-r-requires t c =
+    let below = rw (← c.node_word-first.ensures, ← c.node_word-count.ensures) at (below_of c.args.self.now.checked _ map_kind c.requires.1) in
+    let left = c.flat_entry-f.ensures.inner (sym c.is_inner.ensures ∙ c.if-is_inner.true) in
+    let taken = c.loop-i-test.true in (
+      omega (arith, c.decreases),
+      (
+        c.requires.0.0,
+        (
+          rw c.word-key.ensures (below.key c.loop-i.i taken),
+          rw c.word-value.ensures (below.value c.loop-i.i taken (rw c.word-value.ensures at left.1.1)),
+        ),
+      ),
+    )
+
+pub lower_map-returns-then-is_refusal-2-clause-lowers : goal.lower_map-returns-then-is_refusal-2-clause-lowers
+unfolding lower_node words_of
+lower_map-returns-then-is_refusal-2-clause-lowers t c =
+    let tree = tree_of c.args.self.now.nodes.now c.args.self.now.list.now c.args.self.now.names.now in
+    let checked = c.args.self.now.checked in
+    let emitted = rw c.reg_of.ensures at c.emit_instruction-emitted.ensures.words in
+    let left = c.flat_entry-f.ensures.inner (sym c.is_inner.ensures ∙ c.if-is_inner.true) in
+    let walked = rw (left.1.0.0, left.1.0.1.0, left.1.0.1.1) at c.entry-r.ensures.lowers in
+    expression_of checked _ map_kind c.requires.1 _ _
+    (then_by tree _ register_at _ _ _ (c.destination-t.ensures.step tree _ _ _) c.is_refusal.ensures c.if-is_refusal.false c.value_of-d.ensures
+    (then_emitted tree _ _ _ _ refl emitted c.in-Ok.is
+    (rw (← c.node_word-first.ensures, ← c.node_word-count.ensures)
+    (entries_stop _ _ _ _ _ _ _ _ c.loop-i.invariant.1.0 _ _ _ _ c.loop-i-test.true c.word-key.ensures c.word-value.ensures walked
+    c.is_refusal-then-is_inner.ensures _ (operand_at _) c.if-is_refusal-2.true))))
+
+-- an entry of leaves
+pub lower_map-returns-then-is_refusal-3-clause-lowers : goal.lower_map-returns-then-is_refusal-3-clause-lowers
+unfolding lower_node words_of
+lower_map-returns-then-is_refusal-3-clause-lowers t c =
+    let tree = tree_of c.args.self.now.nodes.now c.args.self.now.list.now c.args.self.now.names.now in
+    let checked = c.args.self.now.checked in
+    let emitted = rw c.reg_of.ensures at c.emit_instruction-emitted.ensures.words in
+    let done = c.flat_entry-f.ensures.step _ _ _ (sym c.is_inner.ensures ∙ c.if-is_inner.false) in
+    expression_of checked _ map_kind c.requires.1 _ _
+    (then_by tree _ register_at _ _ _ (c.destination-t.ensures.step tree _ _ _) c.is_refusal.ensures c.if-is_refusal.false c.value_of-d.ensures
+    (then_emitted tree _ _ _ _ refl emitted c.in-Ok.is
+    (rw (← c.node_word-first.ensures, ← c.node_word-count.ensures)
+    (entries_stop _ _ _ _ _ _ _ _ c.loop-i.invariant.1.0 _ _ _ _ c.loop-i-test.true c.word-key.ensures c.word-value.ensures done
+    c.is_refusal-else-is_inner.ensures _ (operand_at _) c.if-is_refusal-3.true))))
+
+-- where the two ways meet: the entry was walked, or done in place
+pub lower_map-loop-i-preserved : goal.lower_map-loop-i-preserved
+lower_map-loop-i-preserved t c = (
+  omega (arith, c.loop-i-test.true),
+  (
+    elim c.if-is_inner.branch [
+      | lower_map-then-is_inner+else-is_refusal-2 w ↦
+          let left = c.flat_entry-f.ensures.inner (sym c.is_inner.ensures ∙ w.if-is_inner.true) in
+          at_next _ _ _ _ _ _ (ap (λ b. b.code.now) w.buffers-is) (ap (λ b. b.constants.now) w.buffers-is) (ap (λ b. b.marks.now) w.buffers-is) w.s-is
+          (entries_again _ _ _ _ _ _ _ _ c.loop-i.invariant.1.0 _ _ _ _ c.loop-i-test.true c.word-key.ensures c.word-value.ensures (rw (left.1.0.0, left.1.0.1.0, left.1.0.1.1) at w.entry-r.ensures.lowers)
+          w.is_refusal-then-is_inner.ensures w.if-is_refusal-2.false)
+      | lower_map-else-is_inner+else-is_refusal-3 w ↦
+          at_next _ _ _ _ _ _ (ap (λ b. b.code.now) w.buffers-is) (ap (λ b. b.constants.now) w.buffers-is) (ap (λ b. b.marks.now) w.buffers-is) w.s-is
+          (entries_again _ _ _ _ _ _ _ _ c.loop-i.invariant.1.0 _ _ _ _ c.loop-i-test.true c.word-key.ensures c.word-value.ensures (c.flat_entry-f.ensures.step _ _ _ (sym c.is_inner.ensures ∙ w.if-is_inner.false))
+          w.is_refusal-else-is_inner.ensures w.if-is_refusal-3.false)
+    ],
+    search rules,
+  ),
+)
+
+pub lower_map-returns-clause-lowers : goal.lower_map-returns-clause-lowers
+unfolding lower_node words_of settled
+lower_map-returns-clause-lowers t c =
+    let tree = tree_of c.args.self.now.nodes.now c.args.self.now.list.now c.args.self.now.names.now in
+    let checked = c.args.self.now.checked in
+    let few = register_word _ c.is_refusal.ensures c.if-is_refusal.false c.value_of-d.ensures (c.destination-t.ensures.word c.requires.0.1) in
+    let emitted = rw c.reg_of.ensures at c.emit_instruction-emitted.ensures.words in
+    rw (c.answered.ensures.state, c.answered.ensures.answer)
+    (expression_of checked _ map_kind c.requires.1 _ _
+    (then_by tree _ register_at _ _ _ (c.destination-t.ensures.step tree _ _ _) c.is_refusal.ensures c.if-is_refusal.false c.value_of-d.ensures
+    (then_emitted tree _ _ _ _ refl emitted c.in-Ok.is
+    (rw (← c.node_word-first.ensures, ← c.node_word-count.ensures)
+    (then_done _ (entries_none _ _ _ _ _ _ _ _ c.loop-i.invariant.1.0 (omega (arith, c.loop-i-test.false, c.loop-i.invariant.0)))
+    (ended _ _ _ _ few))))))
+
+-- ---- `lower_unary`: destination, operand, one instruction, and the operand's register given back
+
+pub lower_unary-returns-then-is_refusal-clause-lowers : goal.lower_unary-returns-then-is_refusal-clause-lowers
+lower_unary-returns-then-is_refusal-clause-lowers t c =
+    single_of _ _ c.only_operand-operand.ensures _ _ c.args.self.now.checked c.requires.1 _ _
+    (stop_by _ _ register_at _ _ _ (c.destination-t.ensures.step _ _ _ _) (operand_at _) c.is_refusal.ensures c.if-is_refusal.true)
+
+pub lower_unary-peek-f1-requires : goal.lower_unary-peek-f1-requires
+lower_unary-peek-f1-requires t c = (child_in _ _ _ c.requires.0.0 (single_below _ _ c.only_operand-operand.ensures _ _ c.args.self.now.checked c.requires.1), omega arith)
+
+pub lower_unary-lower_materializing-r1-requires : goal.lower_unary-lower_materializing-r1-requires
+lower_unary-lower_materializing-r1-requires t c = walk_in _ _ _ _ c.requires.0.0 (single_below _ _ c.only_operand-operand.ensures _ _ c.args.self.now.checked c.requires.1) (omega (arith, c.decreases)) omega arith (λ h. omega (arith, (c.peek-f1.ensures.inner h).1.0))
+
+pub lower_unary-returns-then-is_refusal-2-clause-lowers : goal.lower_unary-returns-then-is_refusal-2-clause-lowers
+lower_unary-returns-then-is_refusal-2-clause-lowers t c =
+    let tree = tree_of c.args.self.now.nodes.now c.args.self.now.list.now c.args.self.now.names.now in
+    let checked = c.args.self.now.checked in
+    single_of _ _ c.only_operand-operand.ensures _ _ c.args.self.now.checked c.requires.1 _ _
+    (then_by tree _ register_at _ _ _ (c.destination-t.ensures.step tree _ _ _) c.is_refusal.ensures c.if-is_refusal.false c.value_of-d.ensures
+    (stop_by tree _ register_at _ _ _ (register_of checked c.peek-f1.ensures.inner c.lower_materializing-r1.ensures.walked c.lower_materializing-r1.ensures.done (λ h. c.peek-f1.ensures.register _ checked h refl)) (operand_at _) c.is_refusal-2.ensures c.if-is_refusal-2.true))
+
+pub lower_unary-returns-in_default-clause-lowers : goal.lower_unary-returns-in_default-clause-lowers
+unfolding operated
+lower_unary-returns-in_default-clause-lowers t c =
+    let tree = tree_of c.args.self.now.nodes.now c.args.self.now.list.now c.args.self.now.names.now in
+    let checked = c.args.self.now.checked in
+    let told = single_words _ _ _ c.only_opcode-opcode.ensures.unary c.only_opcode-opcode.ensures.not _ _ ∙ same_fields _ c.reg_of.ensures c.reg_of-2.ensures refl in
+    by_answer _ _ _ _ _ _ (c.refused.ensures.state, c.refused.ensures.answer)
+    (single_of _ _ c.only_operand-operand.ensures _ _ c.args.self.now.checked c.requires.1 _ _
+    (then_by tree _ register_at _ _ _ (c.destination-t.ensures.step tree _ _ _) c.is_refusal.ensures c.if-is_refusal.false c.value_of-d.ensures
+    (then_by tree _ register_at _ _ _ (register_of checked c.peek-f1.ensures.inner c.lower_materializing-r1.ensures.walked c.lower_materializing-r1.ensures.done (λ h. c.peek-f1.ensures.register _ checked h refl)) c.is_refusal-2.ensures c.if-is_refusal-2.false c.value_of-src.ensures
+    (stop_emitted _ _ _ _ _ told c.emit_instruction-emitted.ensures.words (operand_at _) c.in_default.is))))
+
+pub lower_unary-returns-clause-lowers : goal.lower_unary-returns-clause-lowers
+unfolding operated settled
+lower_unary-returns-clause-lowers t c =
+    let tree = tree_of c.args.self.now.nodes.now c.args.self.now.list.now c.args.self.now.names.now in
+    let checked = c.args.self.now.checked in
+    let few = register_word _ c.is_refusal.ensures c.if-is_refusal.false c.value_of-d.ensures (c.destination-t.ensures.word c.requires.0.1) in
+    let told = single_words _ _ _ c.only_opcode-opcode.ensures.unary c.only_opcode-opcode.ensures.not _ _ ∙ same_fields _ c.reg_of.ensures c.reg_of-2.ensures refl in
+    by_answer _ _ _ _ _ _ (c.answered.ensures.state, c.answered.ensures.answer)
+    (single_of _ _ c.only_operand-operand.ensures _ _ c.args.self.now.checked c.requires.1 _ _
+    (then_by tree _ register_at _ _ _ (c.destination-t.ensures.step tree _ _ _) c.is_refusal.ensures c.if-is_refusal.false c.value_of-d.ensures
+    (then_by tree _ register_at _ _ _ (register_of checked c.peek-f1.ensures.inner c.lower_materializing-r1.ensures.walked c.lower_materializing-r1.ensures.done (λ h. c.peek-f1.ensures.register _ checked h refl)) c.is_refusal-2.ensures c.if-is_refusal-2.false c.value_of-src.ensures
+    (then_emitted tree _ _ _ _ told c.emit_instruction-emitted.ensures.words c.in-Ok.is
+    (then_freed _ _ _ c.give_back-held1.ensures
+    (ended _ _ _ _ few))))))
+
+-- ---- `property`: destination, object, key pooled, GetPropertyK, and the object's register given back
+
+pub property-returns-then-is_refusal-clause-lowers : goal.property-returns-then-is_refusal-clause-lowers
+property-returns-then-is_refusal-clause-lowers t c =
+    let checked = c.args.self.now.checked in
+    property_of checked _ c.requires.1 c.node_word-object.ensures c.node_word-property.ensures _ _
+    (stop_by _ _ register_at _ _ _ (c.destination-t.ensures.step _ _ _ _) (operand_at _) c.is_refusal.ensures c.if-is_refusal.true)
+
+pub property-peek-f1-requires : goal.property-peek-f1-requires
+property-peek-f1-requires t c = (child_in _ _ _ c.requires.0.0 (property_below c.args.self.now.checked _ c.requires.1 c.node_word-object.ensures c.node_word-property.ensures), omega arith)
+
+pub property-lower_materializing-r1-requires : goal.property-lower_materializing-r1-requires
+property-lower_materializing-r1-requires t c = walk_in _ _ _ _ c.requires.0.0 (property_below c.args.self.now.checked _ c.requires.1 c.node_word-object.ensures c.node_word-property.ensures) (omega (arith, c.decreases)) omega arith (λ h. omega (arith, (c.peek-f1.ensures.inner h).1.0))
+
+pub property-returns-then-is_refusal-2-clause-lowers : goal.property-returns-then-is_refusal-2-clause-lowers
+property-returns-then-is_refusal-2-clause-lowers t c =
+    let tree = tree_of c.args.self.now.nodes.now c.args.self.now.list.now c.args.self.now.names.now in
+    let checked = c.args.self.now.checked in
+    property_of checked _ c.requires.1 c.node_word-object.ensures c.node_word-property.ensures _ _
+    (then_by tree _ register_at _ _ _ (c.destination-t.ensures.step tree _ _ _) c.is_refusal.ensures c.if-is_refusal.false c.value_of-d.ensures
+    (stop_by tree _ register_at _ _ _ (register_of checked c.peek-f1.ensures.inner c.lower_materializing-r1.ensures.walked c.lower_materializing-r1.ensures.done (λ h. c.peek-f1.ensures.register _ checked h refl)) (operand_at _) c.is_refusal-2.ensures c.if-is_refusal-2.true))
+
+pub property-returns-in_default-clause-lowers : goal.property-returns-in_default-clause-lowers
+unfolding fetched
+property-returns-in_default-clause-lowers t c =
+    let tree = tree_of c.args.self.now.nodes.now c.args.self.now.list.now c.args.self.now.names.now in
+    let checked = c.args.self.now.checked in
+    by_answer _ _ _ _ _ _ (c.refused.ensures.state, c.refused.ensures.answer)
+    (property_of checked _ c.requires.1 c.node_word-object.ensures c.node_word-property.ensures _ _
+    (then_by tree _ register_at _ _ _ (c.destination-t.ensures.step tree _ _ _) c.is_refusal.ensures c.if-is_refusal.false c.value_of-d.ensures
+    (then_by tree _ register_at _ _ _ (register_of checked c.peek-f1.ensures.inner c.lower_materializing-r1.ensures.walked c.lower_materializing-r1.ensures.done (λ h. c.peek-f1.ensures.register _ checked h refl)) c.is_refusal-2.ensures c.if-is_refusal-2.false c.value_of-src.ensures
+    (stop_stored tree _ _ _ _ c.store_constant-stored.ensures.words (operand_at _) c.in_default.is))))
+
+pub property-returns-in_default-place-clause-lowers : goal.property-returns-in_default-place-clause-lowers
+unfolding fetched words_of
+property-returns-in_default-place-clause-lowers t c =
+    let tree = tree_of c.args.self.now.nodes.now c.args.self.now.list.now c.args.self.now.names.now in
+    let checked = c.args.self.now.checked in
+    let told = same_fields _ c.reg_of.ensures c.reg_of-2.ensures refl in
+    by_answer _ _ _ _ _ _ (c.refused-in_default-place.ensures.state, c.refused-in_default-place.ensures.answer)
+    (property_of checked _ c.requires.1 c.node_word-object.ensures c.node_word-property.ensures _ _
+    (then_by tree _ register_at _ _ _ (c.destination-t.ensures.step tree _ _ _) c.is_refusal.ensures c.if-is_refusal.false c.value_of-d.ensures
+    (then_by tree _ register_at _ _ _ (register_of checked c.peek-f1.ensures.inner c.lower_materializing-r1.ensures.walked c.lower_materializing-r1.ensures.done (λ h. c.peek-f1.ensures.register _ checked h refl)) c.is_refusal-2.ensures c.if-is_refusal-2.false c.value_of-src.ensures
+    (then_stored tree _ _ _ _ c.store_constant-stored.ensures.words c.in-Ok.is
+    (stop_emitted _ _ _ _ _ told c.emit_instruction-emitted.ensures.words (operand_at _) c.in_default-place.is)))))
+
+pub property-returns-clause-lowers : goal.property-returns-clause-lowers
+unfolding fetched words_of settled
+property-returns-clause-lowers t c =
+    let tree = tree_of c.args.self.now.nodes.now c.args.self.now.list.now c.args.self.now.names.now in
+    let checked = c.args.self.now.checked in
+    let few = register_word _ c.is_refusal.ensures c.if-is_refusal.false c.value_of-d.ensures (c.destination-t.ensures.word c.requires.0.1) in
+    let told = same_fields _ c.reg_of.ensures c.reg_of-2.ensures refl in
+    by_answer _ _ _ _ _ _ (c.answered.ensures.state, c.answered.ensures.answer)
+    (property_of checked _ c.requires.1 c.node_word-object.ensures c.node_word-property.ensures _ _
+    (then_by tree _ register_at _ _ _ (c.destination-t.ensures.step tree _ _ _) c.is_refusal.ensures c.if-is_refusal.false c.value_of-d.ensures
+    (then_by tree _ register_at _ _ _ (register_of checked c.peek-f1.ensures.inner c.lower_materializing-r1.ensures.walked c.lower_materializing-r1.ensures.done (λ h. c.peek-f1.ensures.register _ checked h refl)) c.is_refusal-2.ensures c.if-is_refusal-2.false c.value_of-src.ensures
+    (then_stored tree _ _ _ _ c.store_constant-stored.ensures.words c.in-Ok.is
+    (then_emitted tree _ _ _ _ told c.emit_instruction-emitted.ensures.words c.in-Ok-place.is
+    (then_freed _ _ _ c.give_back-held1.ensures
+    (ended _ _ _ _ few)))))))
+
+-- ---- `test`: the node's value in a register, by either way, and then its jump
+
+pub test-returns-then-is_refusal-clause-lowers : goal.test-returns-then-is_refusal-clause-lowers
+unfolding test
+test-returns-then-is_refusal-clause-lowers t c =
+    let tree = tree_of c.args.self.now.nodes.now c.args.self.now.list.now c.args.self.now.names.now in
+    let kind = c.node_word.ensures in
+    -- its value, by either way
+    let value : Lowers (λ t. register_at) (λ t. lower_materializing (lower_expression free_temp t c.args.node) None) c.args.self.now.nodes.now c.args.self.now.list.now c.args.self.now.names.now
+    c.args.buffers.now.code.now c.args.buffers.now.constants.now c.args.buffers.now.marks.now c.if-node_word-lt-IDENTIFIER.buffers.code.now c.if-node_word-lt-IDENTIFIER.buffers.constants.now c.if-node_word-lt-IDENTIFIER.buffers.marks.now c.args.state c.if-node_word-lt-IDENTIFIER.r =
+    elim c.if-node_word-lt-IDENTIFIER.branch [
+      | test-then-node_word-lt-IDENTIFIER w ↦
+          at_meeting tree register_at (ap (λ b. b.code.now) w.buffers-is) (ap (λ b. b.constants.now) w.buffers-is) (ap (λ b. b.marks.now) w.buffers-is) w.r-is
+          (literal_value c.args.self.now.checked c.args.node (omega (arith, kind, w.if-node_word-lt-IDENTIFIER.true)) None _
+          (rw (w.literal.ensures, dest_of_any) at (w.load_constant-r.ensures.step tree (words c.args.buffers.now.marks.now))))
+      | test-else-node_word-lt-IDENTIFIER w ↦
+          at_meeting tree register_at (ap (λ b. b.code.now) w.buffers-is) (ap (λ b. b.constants.now) w.buffers-is) (ap (λ b. b.marks.now) w.buffers-is) w.r-is
+          (answered_value c.args.self.now.checked c.args.node (omega (arith, kind, w.if-node_word-lt-IDENTIFIER.false)) None _ _ _ (rw dest_of_any at w.lower_expression-r.ensures.lowers))
+    ] in
+    stop_by _ _ register_at _ _ _ value place_at c.is_refusal.ensures c.if-is_refusal.true
+
+pub test-returns-in_default-clause-lowers : goal.test-returns-in_default-clause-lowers
+unfolding test
+test-returns-in_default-clause-lowers t c =
+    let tree = tree_of c.args.self.now.nodes.now c.args.self.now.list.now c.args.self.now.names.now in
+    let kind = c.node_word.ensures in
+    -- its value, by either way
+    let value : Lowers (λ t. register_at) (λ t. lower_materializing (lower_expression free_temp t c.args.node) None) c.args.self.now.nodes.now c.args.self.now.list.now c.args.self.now.names.now
+    c.args.buffers.now.code.now c.args.buffers.now.constants.now c.args.buffers.now.marks.now c.if-node_word-lt-IDENTIFIER.buffers.code.now c.if-node_word-lt-IDENTIFIER.buffers.constants.now c.if-node_word-lt-IDENTIFIER.buffers.marks.now c.args.state c.if-node_word-lt-IDENTIFIER.r =
+    elim c.if-node_word-lt-IDENTIFIER.branch [
+      | test-then-node_word-lt-IDENTIFIER w ↦
+          at_meeting tree register_at (ap (λ b. b.code.now) w.buffers-is) (ap (λ b. b.constants.now) w.buffers-is) (ap (λ b. b.marks.now) w.buffers-is) w.r-is
+          (literal_value c.args.self.now.checked c.args.node (omega (arith, kind, w.if-node_word-lt-IDENTIFIER.true)) None _
+          (rw (w.literal.ensures, dest_of_any) at (w.load_constant-r.ensures.step tree (words c.args.buffers.now.marks.now))))
+      | test-else-node_word-lt-IDENTIFIER w ↦
+          at_meeting tree register_at (ap (λ b. b.code.now) w.buffers-is) (ap (λ b. b.constants.now) w.buffers-is) (ap (λ b. b.marks.now) w.buffers-is) w.r-is
+          (answered_value c.args.self.now.checked c.args.node (omega (arith, kind, w.if-node_word-lt-IDENTIFIER.false)) None _ _ _ (rw dest_of_any at w.lower_expression-r.ensures.lowers))
+    ] in
+    let told = c.jump_if.ensures _ ∙ same_fields _ c.reg_of.ensures refl refl in
+    by_answer _ _ _ _ _ _ (c.refused.ensures.state, c.refused.ensures.answer)
+    (then_by _ _ register_at _ _ _ value c.is_refusal.ensures c.if-is_refusal.false c.value_of-src.ensures
+    (last _ (stop_emitted _ _ _ _ _ told c.emit_instruction-emitted.ensures.words place_at c.in_default.is)))
+
+pub test-returns-clause-lowers : goal.test-returns-clause-lowers
+unfolding test settled
+test-returns-clause-lowers t c =
+    let tree = tree_of c.args.self.now.nodes.now c.args.self.now.list.now c.args.self.now.names.now in
+    let kind = c.node_word.ensures in
+    -- its value, by either way
+    let value : Lowers (λ t. register_at) (λ t. lower_materializing (lower_expression free_temp t c.args.node) None) c.args.self.now.nodes.now c.args.self.now.list.now c.args.self.now.names.now
+    c.args.buffers.now.code.now c.args.buffers.now.constants.now c.args.buffers.now.marks.now c.if-node_word-lt-IDENTIFIER.buffers.code.now c.if-node_word-lt-IDENTIFIER.buffers.constants.now c.if-node_word-lt-IDENTIFIER.buffers.marks.now c.args.state c.if-node_word-lt-IDENTIFIER.r =
+    elim c.if-node_word-lt-IDENTIFIER.branch [
+      | test-then-node_word-lt-IDENTIFIER w ↦
+          at_meeting tree register_at (ap (λ b. b.code.now) w.buffers-is) (ap (λ b. b.constants.now) w.buffers-is) (ap (λ b. b.marks.now) w.buffers-is) w.r-is
+          (literal_value c.args.self.now.checked c.args.node (omega (arith, kind, w.if-node_word-lt-IDENTIFIER.true)) None _
+          (rw (w.literal.ensures, dest_of_any) at (w.load_constant-r.ensures.step tree (words c.args.buffers.now.marks.now))))
+      | test-else-node_word-lt-IDENTIFIER w ↦
+          at_meeting tree register_at (ap (λ b. b.code.now) w.buffers-is) (ap (λ b. b.constants.now) w.buffers-is) (ap (λ b. b.marks.now) w.buffers-is) w.r-is
+          (answered_value c.args.self.now.checked c.args.node (omega (arith, kind, w.if-node_word-lt-IDENTIFIER.false)) None _ _ _ (rw dest_of_any at w.lower_expression-r.ensures.lowers))
+    ] in
+    let told = c.jump_if.ensures _ ∙ same_fields _ c.reg_of.ensures refl refl in
+    by_answer _ _ _ _ _ _ (c.answered.ensures.state, c.answered.ensures.answer)
+    (then_by _ _ register_at _ _ _ value c.is_refusal.ensures c.if-is_refusal.false c.value_of-src.ensures
+    (last _ (then_emitted tree _ _ _ _ told c.emit_instruction-emitted.ensures.words c.in-Ok.is
+    (sym (seen_word _ place_at _ _ (omega (arith, append_placed _ _ _ _ _ c.emit_instruction-emitted.ensures.words c.in-Ok.is)))))))

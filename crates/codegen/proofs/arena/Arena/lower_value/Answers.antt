@@ -1,0 +1,36 @@
+-- `codegen::lower_value` meets its contract. Assumes nothing.
+use Rattle.std.proofs.Common.{refl}
+use Rattle.runtime.specs.declared.instruction.Instruction.{Instruction}
+use Rattle.runtime.specs.Instruction.{words_of}
+use Rattle.lowering.specs.Tree.{tree_of}
+use Rattle.lowering.specs.Result.{lower_root}
+use Rattle.steps.specs.Answers.{place_at}
+use Rattle.steps.proofs.Chains.{then_by, stop_by, then_emitted, stop_emitted}
+use Rattle.codegen.proofs.Children.{register_of}
+use Rattle.codegen.proofs.arena.Arena.lower_value.Goals as goal
+
+pub returns-then-is_refusal-clause-lowers : goal.returns-then-is_refusal-clause-lowers
+unfolding lower_root
+returns-then-is_refusal-clause-lowers c =
+    let checked = c.args.self.now.checked in
+    let value = register_of checked c.peek-f.ensures.inner c.lower_materializing-r.ensures.walked c.lower_materializing-r.ensures.done (λ h. c.peek-f.ensures.register _ checked h refl) in
+    stop_by _ _ _ _ _ _ value place_at c.is_refusal.ensures c.if-is_refusal.true
+
+pub returns-in_default-clause-lowers : goal.returns-in_default-clause-lowers
+unfolding lower_root words_of
+returns-in_default-clause-lowers c =
+    let checked = c.args.self.now.checked in
+    let value = register_of checked c.peek-f.ensures.inner c.lower_materializing-r.ensures.walked c.lower_materializing-r.ensures.done (λ h. c.peek-f.ensures.register _ checked h refl) in
+    rw (c.refused.ensures.state, c.refused.ensures.answer)
+    (then_by _ _ _ _ _ _ value c.is_refusal.ensures c.if-is_refusal.false c.value_of-src.ensures
+    (stop_emitted _ _ _ _ (Instruction.Return _) (rw c.reg_of.ensures) c.emit_instruction-emitted.ensures.words place_at c.in_default.is))
+
+pub returns-clause-lowers : goal.returns-clause-lowers
+unfolding lower_root words_of
+returns-clause-lowers c =
+    let t = tree_of c.args.self.now.nodes.now c.args.self.now.list.now c.args.self.now.names.now in
+    let checked = c.args.self.now.checked in
+    let value = register_of checked c.peek-f.ensures.inner c.lower_materializing-r.ensures.walked c.lower_materializing-r.ensures.done (λ h. c.peek-f.ensures.register _ checked h refl) in
+    then_by t _ _ _ _ _ value c.is_refusal.ensures c.if-is_refusal.false c.value_of-src.ensures
+    (then_emitted t _ _ _ (Instruction.Return _) (rw c.reg_of.ensures) c.emit_instruction-emitted.ensures.words c.in-Ok.is
+    (c.patch_and_answer.ensures.step _ _))

@@ -1,0 +1,33 @@
+-- The tree and the buffers that are lent to the walk, and what a function of the walk does with them.
+use Rattle.std.specs.Prelude.{ℕ, ◌≡◌}
+use Rattle.words.specs.Words.{words}
+use Rattle.lowering.specs.declared.State.{State}
+use Rattle.lowering.specs.Tree.{Tree}
+use Rattle.lowering.specs.Walk.{Walk, Made, made}
+use Rattle.steps.specs.declared.answer.AnswerAndState.{AnswerAndState}
+use Rattle.codegen.specs.Ready.{Lowers}
+use Rattle.codegen.specs.declared.arena.Arena.{Arena}
+use Rattle.codegen.specs.declared.arena.Buffers.{Buffers}
+
+-- what was made so far: the words of the three buffers, and the state
+abbrev pub made_of : Buffers → State → Made
+made_of b s = made (words b.code.now) (words b.constants.now) (words b.marks.now) s
+
+-- the fields hold the same borrows
+pub record Kept (old new : Buffers) : Type 0 where
+  pub code : new.code.ghost_name ≡ old.code.ghost_name
+  pub constants : new.constants.ghost_name ≡ old.constants.ghost_name
+  pub marks : new.marks.ghost_name ≡ old.marks.ghost_name
+
+-- no word was written
+abbrev pub Untouched : Buffers → Buffers → Type 0
+Untouched old new = (words new.code.now ≡ words old.code.now) × ((words new.constants.now ≡ words old.constants.now) × (words new.marks.now ≡ words old.marks.now))
+
+-- and no register and no count changed
+abbrev pub NothingDone : Buffers → Buffers → State → AnswerAndState → Type 0
+NothingDone old new state r = (r.state ≡ state) × Untouched old new
+
+-- the walk's answer, and the words that it leaves, are those of w of the definition
+abbrev pub Walks : {A : Type 0} → (Tree → ℕ → A) → (Tree → Walk A) → Arena → Buffers → Buffers → State → AnswerAndState → Type 0
+Walks gives w a old new state r =
+    Lowers gives w a.nodes.now a.list.now a.names.now old.code.now old.constants.now old.marks.now new.code.now new.constants.now new.marks.now state r

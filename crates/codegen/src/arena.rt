@@ -1,0 +1,100 @@
+// What the walk reads of a node: its words, without a test, and its literal.
+ghost use Rattle.std.specs.Prelude.{◌≡◌, cond, ◌<◌, ◌≤◌, eqb, length};
+ghost use Rattle.words.specs.Words.{words};
+ghost use Rattle.environment.specs.Environment.{lookup};
+ghost use Rattle.syntax.specs.Ast.{node_width, node_at};
+ghost use Rattle.lowering.specs.Literals.{literal};
+ghost use Rattle.steps.specs.Answers.{literal_word};
+ghost use Rattle.lowering.specs.Tree.{tree_of};
+ghost use Rattle.lowering.specs.Checked.{Checked};
+ghost use Rattle.codegen.specs.Once.{checked_prop, falling_prop};
+ghost use Rattle.codegen.specs.Ready.{InArena, node_word_of};
+ghost use Rattle.codegen.specs.Flat.{Falling, found_at, LocalOr};
+
+use environment::{Register, lookup};
+use runtime::operand::Operand;
+use runtime::value::number;
+use steps::answer::{LITERAL, NONE, local};
+use syntax::ast::NODE_WORDS;
+use syntax::kind;
+use words::word;
+
+const NODE_BYTES: usize = 4 * NODE_WORDS;
+
+// The tree that is lowered: what the questions passed.
+#[derive(Clone, Copy, Drop)]
+pub(crate) struct Arena<'a> {
+    pub(crate) nodes: &'a [u8],
+    pub(crate) list: &'a [u8],
+    pub(crate) names: &'a [u8],
+    pub ghost checked: { Checked (tree_of nodes.now list.now names.now) } by { checked_prop (tree_of nodes.now list.now names.now) },
+    pub ghost falling: { Falling nodes.now } by { falling_prop nodes.now },
+    pub ghost few: { length (words names.now) ≤ 256 },
+}
+
+// The buffers that are written.
+#[derive(Drop)]
+pub(crate) struct Buffers<'a> {
+    pub(crate) code: &'a mut [u8],
+    pub(crate) constants: &'a mut [u8],
+    pub(crate) marks: &'a mut [u8],
+}
+
+impl Arena<'_> {
+    // Word k of a node of the arena.
+    pub(crate) fn node_word(&self, node: u32, k: usize) -> u32
+        requires { InArena self.now.nodes.now node × (k < node_width) }
+        ensures { result ≡ node_word_of self.now.nodes.now node k }
+    {
+        let at = NODE_BYTES * (node as usize);
+        let end = at + NODE_BYTES;
+        word(&self.nodes[at..end], k)
+    }
+
+    // The operand of a literal; nil for any other node.
+    pub(crate) fn literal(&self, node: u32) -> Operand
+        requires { InArena self.now.nodes.now node }
+        ensures { result ≡ literal (node_at (words self.now.nodes.now) node) }
+    {
+        let kind = self.node_word(node, 0);
+        let a = self.node_word(node, 1);
+        let b = self.node_word(node, 2);
+        match kind {
+            kind::NUMBER => {
+                let x = number(a, b);
+                Operand::Number(x)
+            }
+            kind::STRING => Operand::String(a),
+            kind::BOOLEAN => Operand::Boolean(a != 0),
+            _ => Operand::Nil,
+        }
+    }
+
+    // The literal that one of two sources is; nil if none is.
+    pub(crate) fn literal_of(&self, left: u32, right: u32, src1: u32, src2: u32) -> Operand
+        requires { InArena self.now.nodes.now left × InArena self.now.nodes.now right }
+        ensures { result ≡ cond (eqb src1 literal_word) (literal (node_at (words self.now.nodes.now) left)) (cond (eqb src2 literal_word) (literal (node_at (words self.now.nodes.now) right)) Operand.Nil) }
+    {
+        if src1 == LITERAL {
+            return self.literal(left);
+        }
+        if src2 == LITERAL {
+            return self.literal(right);
+        }
+        Operand::Nil
+    }
+
+    // The register of a name, or NONE.
+    #[tactic(auto, using(words::proofs::Words::length_words))]
+    pub(crate) fn find(&self, name: u32) -> u32
+        ensures found { found_at result ≡ lookup (words self.now.names.now) (length (words self.now.names.now)) name }
+        ensures local { LocalOr result }
+    {
+        let arity = (self.names.len() / 4) as u32;
+        match lookup(self.names, arity, name) {
+            Ok(Register::Local(r)) => local(r),
+            Ok(Register::Temp(_)) => NONE,
+            Err(_) => NONE,
+        }
+    }
+}
