@@ -247,7 +247,7 @@ leaf_key t d key value child m {r} few has same q = go (ℕ_discrete (node_word 
     go (no e) =
         let is : child ≡ value = same ∙ sym (valued key value (has e)) in
         key_and_value t (lower_expression free_temp t) d key value m e (has e)
-        (then_leaf t key literal_word ((λ h. absurd (e h)), (λ h. refl)) m _ few (λ h. omega arith)
+        (then_leaf t key (Some literal_word) ((λ h. absurd (e h)), (λ h. refl)) refl m _ few
         (rw (source_operand (node t key) literal_word) (rw ((other_key t (lower_expression free_temp t) d key value m e).1, is) at q)))
 
 -- ---- the entries of a map

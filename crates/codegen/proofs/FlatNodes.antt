@@ -10,6 +10,7 @@ use mathlib.Core.Bool.{Bool, true, false, cond, not, ◌&&◌, ◌||◌, and-fal
 use mathlib.Core.List.{List}
 use lib.Dec.{eqb, leb}
 use lib.ListN.{length}
+use denote.Enum.Bare.{sameb}
 use borrow.Author.Tests.{lt-ltb, le-ltb, le-leb, lt-leb, leb-true, eqb-true, eqb-false, eq-eqb, ne_eqb}
 use Rattle.diagnostics.specs.declared.Refusal.{Refusal}
 use Rattle.environment.specs.declared.Register.{Register}
@@ -35,9 +36,11 @@ use Rattle.steps.specs.Answers.{none, any, register_at, literal_word, operand_at
 use Rattle.steps.specs.Answers.{is_inner, DestOrRefusal, WordOrRefusal}
 use Rattle.steps.proofs.Words.{source_operand, is_inner_word}
 use Rattle.steps.proofs.Chains.{then, stop, last, nested, seen_given, seen_stopped, seen_word, seen_refusal}
+use Rattle.codegen.specs.declared.flat.Asked.{Asked}
+use Rattle.codegen.specs.contracts.flat.Asked.{the_type}
 use Rattle.codegen.specs.Ready.{InArena, node_word_of}
 use Rattle.codegen.specs.Kinds.{name_kind, binary_kind}
-use Rattle.codegen.specs.Flat.{Falling, Given, are_leaves, is_flat, found_at, LocalOr, ask_operand, ask_into, needing, flat_node}
+use Rattle.codegen.specs.Flat.{Falling, Given, are_leaves, is_flat, found_at, LocalOr, needing, flat_literal, name_dest, flat_node}
 use Rattle.codegen.proofs.Walk.{is_literal_lem, literal_expression}
 use Rattle.codegen.proofs.Operands.{operator_of, both_constant, one_literal, first_source, second_source}
 use Rattle.codegen.proofs.Reading.{named_at, local_word, same_word}
@@ -107,18 +110,33 @@ loaded_operand t n d w m m₁ a given word e =
 
 -- ---- a flat node by its kind
 
+-- a literal whose operand is not what is asked is loaded
+literal_put : (c : Operand) (asked : Asked) (d : ℕ) → asked ≢ Asked.Operand →
+    flat_literal c asked d ≡ needing d (load_constant c (Some (register_at d)) >>= λ x. ret (Operand.Register x))
+unfolding flat_literal
+literal_put c Asked.Operand d h = absurd (h refl)
+literal_put c Asked.Register d h = refl
+literal_put c Asked.Into d h = refl
+
+-- a name keeps its register unless another one is given
+pub own_dest : (asked : Asked) (d : ℕ) → asked ≢ Asked.Into → name_dest asked d ≡ None
+unfolding name_dest
+own_dest Asked.Operand d h = refl
+own_dest Asked.Register d h = refl
+own_dest Asked.Into d h = absurd (h refl)
+
 -- how it is lowered
-module _ (t : Tree) (asked d i : ℕ) (m : Made) where
-  pub literal_flat : node_word t.nodes i 0 < name_kind → asked ≢ ask_operand →
+module _ (t : Tree) (asked : Asked) (d i : ℕ) (m : Made) where
+  pub literal_flat : node_word t.nodes i 0 < name_kind → asked ≢ Asked.Operand →
       flat_node t asked d i m ≡ needing d (load_constant (literal (node t i)) (Some (register_at d)) >>= λ x. ret (Operand.Register x)) m
   unfolding flat_node
-  literal_flat kind h = rw (lt-ltb (node_word t.nodes i 0) name_kind kind, ne_eqb asked ask_operand h)
+  literal_flat kind h = rw (lt-ltb (node_word t.nodes i 0) name_kind kind, literal_put (literal (node t i)) asked d h)
 
-  pub literal_itself : node_word t.nodes i 0 < name_kind → asked ≡ ask_operand → flat_node t asked d i m ≡ ends (literal (node t i)) m
-  unfolding flat_node
-  literal_itself kind h = rw (lt-ltb (node_word t.nodes i 0) name_kind kind, eq-eqb asked ask_operand h)
+  pub literal_itself : node_word t.nodes i 0 < name_kind → asked ≡ Asked.Operand → flat_node t asked d i m ≡ ends (literal (node t i)) m
+  unfolding flat_node flat_literal
+  literal_itself kind h = rw (lt-ltb (node_word t.nodes i 0) name_kind kind, h)
 
-  pub name_flat : node_word t.nodes i 0 ≡ name_kind → flat_node t asked d i m ≡ lower_expression free_temp t i (cond (eqb asked ask_into) (Some (register_at d)) None) m
+  pub name_flat : node_word t.nodes i 0 ≡ name_kind → flat_node t asked d i m ≡ lower_expression free_temp t i (name_dest asked d) m
   unfolding flat_node
   name_flat kind = rw kind
 
@@ -129,117 +147,117 @@ module _ (t : Tree) (asked d i : ℕ) (m : Made) where
 -- ---- names
 
 -- a name's word is no literal's
-pub name_word : {w : ℕ} → LocalOr w → w ≢ literal_word
-name_word (inl h) e = omega arith
-name_word (inr h) e = omega arith
+name_word : {o : Option ℕ} {w : ℕ} → LocalOr o → o ≡ Some w → w ≢ literal_word
+name_word local h e = let word = local_word local h in omega arith
 
 -- a name, by the word of its register
-module _ (t : Tree) (i : ℕ) (kind : node_word t.nodes i 0 ≡ name_kind) (w : ℕ) (found : found_at w ≡ lookup t.names (length t.names) (node_word t.nodes i 1)) where
-  name_declared : (dest : Option Register) (m : Made) → w ≢ none → lower_expression free_temp t i dest m ≡ moved t (register_at w) dest m
+module _ (t : Tree) (i : ℕ) (kind : node_word t.nodes i 0 ≡ name_kind) (o : Option ℕ) (found : found_at o ≡ lookup t.names (length t.names) (node_word t.nodes i 1)) where
+  name_declared : {w : ℕ} (dest : Option Register) (m : Made) → o ≡ Some w → lower_expression free_temp t i dest m ≡ moved t (register_at w) dest m
   unfolding lower_name found_at
-  name_declared dest m h = named_at t i m dest kind found ∙ rw (ne_eqb w none h)
+  name_declared dest m h = named_at t i m dest kind found ∙ rw h
 
-  pub stop_name : {B : Type 0} (dest : Option Register) (m : Made) (k : Operand → Walk B) (gives : ℕ → B) → w ≡ none → i < word_end →
+  pub stop_name : {B : Type 0} (dest : Option Register) (m : Made) (k : Operand → Walk B) (gives : ℕ → B) → o ≡ None → i < word_end →
       settled (bind (lower_expression free_temp t i dest m) k) ≡ seen t gives m (refusal_at Refusal.Undeclared i)
   unfolding lower_name found_at error_at names_node bind settled
-  stop_name dest m k gives h small = rw (named_at t i m dest kind found, eq-eqb w none h) (sym (seen_refusal t gives m Refusal.Undeclared i small))
+  stop_name dest m k gives h small = rw (named_at t i m dest kind found, h) (sym (seen_refusal t gives m Refusal.Undeclared i small))
 
-  pub then_name : {B : Type 0} (m : Made) (k : Operand → Walk B) {r : Outcome B} → w ≢ none → settled (k (Operand.Register (register_at w)) m) ≡ r →
+  pub then_name : {B : Type 0} {w : ℕ} (m : Made) (k : Operand → Walk B) {r : Outcome B} → o ≡ Some w → settled (k (Operand.Register (register_at w)) m) ≡ r →
       settled (bind (lower_expression free_temp t i None m) k) ≡ r
   unfolding moved bind
   then_name m k h q = rw (name_declared None m h) q
 
   -- as a flat node: its own register if none is given or it is that one, else a Move
-  module _ (asked d : ℕ) (m : Made) where
-    flat_name : {r : Outcome Operand} → settled (lower_expression free_temp t i (cond (eqb asked ask_into) (Some (register_at d)) None) m) ≡ r →
+  module _ (asked : Asked) (d : ℕ) (m : Made) where
+    flat_name : {r : Outcome Operand} → settled (lower_expression free_temp t i (name_dest asked d) m) ≡ r →
         settled (flat_node t asked d i m) ≡ r
     flat_name q = ap settled (name_flat t asked d i m kind) ∙ q
 
-    pub flat_name_undeclared : (gives : ℕ → Operand) → w ≡ none → i < word_end → settled (flat_node t asked d i m) ≡ seen t gives m (refusal_at Refusal.Undeclared i)
+    pub flat_name_undeclared : (gives : ℕ → Operand) → o ≡ None → i < word_end → settled (flat_node t asked d i m) ≡ seen t gives m (refusal_at Refusal.Undeclared i)
     flat_name_undeclared gives h small = flat_name (last _ (stop_name _ m (λ x. ret x) gives h small))
 
-    pub flat_name_own : {r : Outcome Operand} → LocalOr w → w ≢ none → not (eqb asked ask_into) || eqb w d ≡ true → ends (Operand.Register (register_at w)) m ≡ r →
+    pub flat_name_own : {w : ℕ} {r : Outcome Operand} → LocalOr o → o ≡ Some w → not (sameb the_type asked Asked.Into) || eqb w d ≡ true → ends (Operand.Register (register_at w)) m ≡ r →
         settled (flat_node t asked d i m) ≡ r
-    unfolding moved settled
-    flat_name_own {r} local h own q = flat_name (rw (name_declared (cond (eqb asked ask_into) (Some (register_at d)) None) m h) (go (eqb asked ask_into) own))
+    unfolding name_dest moved settled
+    flat_name_own {w} {r} local h own q = flat_name (rw (name_declared (name_dest asked d) m h) (go asked own))
       where
         declared : (256 ≤ w) × (w < any)
         declared = local_word local h
 
-        go : (b : Bool) → not b || eqb w d ≡ true → settled (moved t (register_at w) (cond b (Some (register_at d)) None) m) ≡ r
-        go false own = q
-        go true own = rw (← eqb-true w d own, same_word w w declared.1 declared.0 declared.1, eq-eqb w w refl) q
+        go : (a : Asked) → not (sameb the_type a Asked.Into) || eqb w d ≡ true → settled (moved t (register_at w) (name_dest a d) m) ≡ r
+        go Asked.Operand own = q
+        go Asked.Register own = q
+        go Asked.Into own = rw (← eqb-true w d own, same_word w w declared.1 declared.0 declared.1, eq-eqb w w refl) q
 
-    pub flat_name_moved : {r : Outcome Operand} → LocalOr w → w ≢ none → asked ≡ ask_into → d < any → w ≢ d →
+    pub flat_name_moved : {w : ℕ} {r : Outcome Operand} → LocalOr o → o ≡ Some w → asked ≡ Asked.Into → d < any → w ≢ d →
         settled (bind (emit (Instruction.Move (reg_of (register_at d)) (reg_of (register_at w))) m) (λ x. ret (Operand.Register (register_at d)))) ≡ r →
         settled (flat_node t asked d i m) ≡ r
-    unfolding moved
-    flat_name_moved local h into few other q =
+    unfolding name_dest moved
+    flat_name_moved {w} local h into few other q =
         let declared = local_word local h in
         let differs : eqb d w ≡ false = ne_eqb d w (λ e. other (sym e)) in
-        flat_name (rw (eq-eqb asked ask_into into, name_declared (Some (register_at d)) m h, same_word d w few declared.0 declared.1, differs) q)
+        flat_name (rw (into, name_declared (Some (register_at d)) m h, same_word d w few declared.0 declared.1, differs) q)
 
   -- as a condition: the test of its own register
   module _ (E : ℕ → Option Register → Walk Operand) (sense : Bool) (m : Made) where
-    pub condition_name_undeclared : (gives : ℕ → ℕ) → w ≡ none → i < word_end →
+    pub condition_name_undeclared : (gives : ℕ → ℕ) → o ≡ None → i < word_end →
         settled (jump_node t E sense (lower_expression free_temp t i) (node t i) m) ≡ seen t gives m (refusal_at Refusal.Undeclared i)
     unfolding jump_node test lower_materializing
     condition_name_undeclared gives h small = rw (node_kind t i name_kind kind) (nested _ _ _ (stop_name None m _ gives h small))
 
-    pub condition_name : {r : Outcome ℕ} → w ≢ none → settled (emit (jump_if sense (reg_of (register_at w))) m) ≡ r →
+    pub condition_name : {w : ℕ} {r : Outcome ℕ} → o ≡ Some w → settled (emit (jump_if sense (reg_of (register_at w))) m) ≡ r →
         settled (jump_node t E sense (lower_expression free_temp t i) (node t i) m) ≡ r
     unfolding jump_node test lower_materializing moved source materialized bind
     condition_name h q = rw (node_kind t i name_kind kind, name_declared None m h) q
 
 -- another register was given
-pub asked_into : (asked w d : ℕ) → not (eqb asked ask_into) || eqb w d ≡ false → (asked ≡ ask_into) × (w ≢ d)
-asked_into asked w d h = go (ℕ_discrete asked ask_into)
-  where
-    go : Dec (asked ≡ ask_into) → (asked ≡ ask_into) × (w ≢ d)
-    go (yes e) = (e, eqb-false w d (rw (eq-eqb asked ask_into e) at h))
-    go (no e) = absurd (true≢false (rw (ne_eqb asked ask_into e) at h))
+pub asked_into : (asked : Asked) (w d : ℕ) → not (sameb the_type asked Asked.Into) || eqb w d ≡ false → (asked ≡ Asked.Into) × (w ≢ d)
+asked_into Asked.Operand w d h = absurd (true≢false h)
+asked_into Asked.Register w d h = absurd (true≢false h)
+asked_into Asked.Into w d h = (refl, eqb-false w d h)
 
 -- ---- leaves
 
 -- the word of a leaf: its name's register, or that of a literal
-abbrev pub Leaf : Tree → ℕ → ℕ → Type 0
-Leaf t i w =
-    (node_word t.nodes i 0 ≡ name_kind → (found_at w ≡ lookup t.names (length t.names) (node_word t.nodes i 1)) × LocalOr w)
-    × (node_word t.nodes i 0 ≢ name_kind → w ≡ literal_word)
+abbrev pub Leaf : Tree → ℕ → Option ℕ → Type 0
+Leaf t i o =
+    (node_word t.nodes i 0 ≡ name_kind → (found_at o ≡ lookup t.names (length t.names) (node_word t.nodes i 1)) × LocalOr o)
+    × (node_word t.nodes i 0 ≢ name_kind → o ≡ Some literal_word)
 
-module _ (t : Tree) (i w : ℕ) (leaf : Leaf t i w) where
-  module _ {B : Type 0} (m : Made) (k : Operand → Walk B) where
-    pub stop_leaf : (gives : ℕ → B) → w ≡ none → i < word_end →
-        settled (bind (lower_expression free_temp t i None m) k) ≡ seen t gives m (refusal_at Refusal.Undeclared i)
-    stop_leaf gives h small = go (ℕ_discrete (node_word t.nodes i 0) name_kind)
-      where
-        go : Dec (node_word t.nodes i 0 ≡ name_kind) → settled (bind (lower_expression free_temp t i None m) k) ≡ seen t gives m (refusal_at Refusal.Undeclared i)
-        go (yes e) = stop_name t i e w (leaf.0 e).0 None m k gives h small
-        go (no e) = absurd (omega (arith, leaf.1 e))
+module _ (t : Tree) (i : ℕ) (o : Option ℕ) (leaf : Leaf t i o) where
+  pub stop_leaf : {B : Type 0} (m : Made) (k : Operand → Walk B) (gives : ℕ → B) → o ≡ None → i < word_end →
+      settled (bind (lower_expression free_temp t i None m) k) ≡ seen t gives m (refusal_at Refusal.Undeclared i)
+  stop_leaf {B} m k gives h small = go (ℕ_discrete (node_word t.nodes i 0) name_kind)
+    where
+      go : Dec (node_word t.nodes i 0 ≡ name_kind) → settled (bind (lower_expression free_temp t i None m) k) ≡ seen t gives m (refusal_at Refusal.Undeclared i)
+      go (yes e) = stop_name t i e o (leaf.0 e).0 None m k gives h small
+      go (no e) = let never : ◌≡◌ {A = Option ℕ} (Some literal_word) None = sym (leaf.1 e) ∙ h in cc
 
-    pub then_leaf : {r : Outcome B} → node_word t.nodes i 0 ≤ name_kind → w ≢ none → settled (k (operand_at (node t i) w) m) ≡ r →
+  module _ {w : ℕ} (declared : o ≡ Some w) where
+    -- a leaf that is no name
+    no_name : node_word t.nodes i 0 ≢ name_kind → w ≡ literal_word
+    no_name e = let same : Some w ≡ Some literal_word = sym declared ∙ leaf.1 e in cc
+
+    pub then_leaf : {B : Type 0} (m : Made) (k : Operand → Walk B) {r : Outcome B} → node_word t.nodes i 0 ≤ name_kind → settled (k (operand_at (node t i) w) m) ≡ r →
         settled (bind (lower_expression free_temp t i None m) k) ≡ r
     unfolding bind operand_at
-    then_leaf {r} few h q = go (ℕ_discrete (node_word t.nodes i 0) name_kind)
+    then_leaf m k {r} few q = go (ℕ_discrete (node_word t.nodes i 0) name_kind)
       where
         go : Dec (node_word t.nodes i 0 ≡ name_kind) → settled (bind (lower_expression free_temp t i None m) k) ≡ r
-        go (yes e) = then_name t i e w (leaf.0 e).0 m k h (rw (ne_eqb w literal_word (name_word (leaf.0 e).1)) at q)
+        go (yes e) = then_name t i e o (leaf.0 e).0 m k declared (rw (ne_eqb w literal_word (name_word (leaf.0 e).1 declared)) at q)
         go (no e) =
             rw (literal_expression t i (is_literal_lem t i (omega arith)) None)
-            (rw (eq-eqb w literal_word (leaf.1 e)) at q)
+            (rw (eq-eqb w literal_word (no_name e)) at q)
 
-  -- a local is not given back, and a literal neither
-  stays : w ≢ none → (c : Operand) → Stays (source_at c w)
-  unfolding Stays source_at register_at
-  stays h c = go (ℕ_discrete (node_word t.nodes i 0) name_kind)
-    where
-      local : LocalOr w → Stays (source_at c w)
-      local (inl e) = absurd (h e)
-      local (inr l) = rw (ne_eqb w literal_word (λ e. omega arith), le-ltb w 256 l.0) tt
-
-      go : Dec (node_word t.nodes i 0 ≡ name_kind) → Stays (source_at c w)
-      go (yes e) = local (leaf.0 e).1
-      go (no e) = rw (eq-eqb w literal_word (leaf.1 e)) tt
+    -- a local is not given back, and a literal neither
+    stays : (c : Operand) → Stays (source_at c w)
+    unfolding Stays source_at register_at
+    stays c = go (ℕ_discrete (node_word t.nodes i 0) name_kind)
+      where
+        go : Dec (node_word t.nodes i 0 ≡ name_kind) → Stays (source_at c w)
+        go (yes e) =
+            let local = local_word (leaf.0 e).1 declared in
+            rw (ne_eqb w literal_word (name_word (leaf.0 e).1 declared), le-ltb w 256 local.0) tt
+        go (no e) = rw (eq-eqb w literal_word (no_name e)) tt
 
 -- ---- an operator or a comparison of two leaves
 
@@ -263,16 +281,17 @@ module _ (nodes : List ℕ) (left right : ℕ) (leaves : are_leaves nodes left r
   pub right_leaf : node_word_of nodes right 0 ≤ name_kind
   right_leaf = leb-true (node_word_of nodes right 0) name_kind asked.1.0
 
-  module _ (list names : List ℕ) (w₁ w₂ : ℕ) (a : Leaf (tree_of nodes list names) left w₁) (b : Leaf (tree_of nodes list names) right w₂) where
+  module _ (list names : List ℕ) {o₁ o₂ : Option ℕ} {w₁ w₂ : ℕ} (a : Leaf (tree_of nodes list names) left o₁) (b : Leaf (tree_of nodes list names) right o₂)
+      (declared₁ : o₁ ≡ Some w₁) (declared₂ : o₂ ≡ Some w₂) where
     -- one of them is a name
     pub not_both : eqb w₁ literal_word && eqb w₂ literal_word ≡ false
     not_both = go (ℕ_discrete (node_word_of nodes left 0) name_kind)
       where
         go : Dec (node_word_of nodes left 0 ≡ name_kind) → eqb w₁ literal_word && eqb w₂ literal_word ≡ false
-        go (yes e) = rw (ne_eqb w₁ literal_word (name_word (a.0 e).1))
+        go (yes e) = rw (ne_eqb w₁ literal_word (name_word (a.0 e).1 declared₁))
         go (no e) =
             let named = eqb-true (node_word_of nodes right 0) name_kind (rw (ne_eqb (node_word_of nodes left 0) name_kind e) at asked.1.1) in
-            rw (ne_eqb w₂ literal_word (name_word (b.0 named).1)) (and-false (eqb w₁ literal_word))
+            rw (ne_eqb w₂ literal_word (name_word (b.0 named).1 declared₂)) (and-false (eqb w₁ literal_word))
 
     -- c: the constant that one of them is
     module _ (E : ℕ → Option Register → Walk Operand) (m : Made) (c : Operand)
@@ -284,16 +303,16 @@ module _ (nodes : List ℕ) (left right : ℕ) (leaves : are_leaves nodes left r
       right_source = source_operand (node (tree_of nodes list names) right) w₂ ∙ rw is (sym (second_source _ _ w₁ w₂ not_both))
 
       -- an operator: nothing is given back
-      pub binary_leaves : w₁ ≢ none → w₂ ≢ none → (operator : BinaryOp) (d : Register) {r : Outcome Operand} →
+      pub binary_leaves : (operator : BinaryOp) (d : Register) {r : Outcome Operand} →
           settled (binary_sources (λ x. ret tt) (tree_of nodes list names) E operator left right d (source_at c w₁) (source_at c w₂) m) ≡ r →
           settled (binary_sources free_temp (tree_of nodes list names) E operator left right d
           (source (operand_at (node (tree_of nodes list names) left) w₁)) (source (operand_at (node (tree_of nodes list names) right) w₂)) m) ≡ r
-      binary_leaves declared₁ declared₂ operator d q =
+      binary_leaves operator d q =
           rw (
             left_source,
             right_source,
             binary_locals (tree_of nodes list names) E operator left right d (source_at c w₁) (source_at c w₂) (both_constant c c w₁ w₂ ∙ not_both)
-                (stays (tree_of nodes list names) left w₁ a declared₁ c) (stays (tree_of nodes list names) right w₂ b declared₂ c) m,
+                (stays (tree_of nodes list names) left o₁ a declared₁ c) (stays (tree_of nodes list names) right o₂ b declared₂ c) m,
           ) q
 
       -- a comparison's jump

@@ -37,11 +37,12 @@ use Rattle.steps.specs.declared.answer.AnswerAndCounts.{AnswerAndCounts}
 use Rattle.steps.specs.Answers.{none, any, register_at, number_at, literal_word, operand_at, source_at, word_end, refusal_start, is_refusal, value_of, is_inner, refusal_at, names_node, error_at, settled, seen, state_of, WordOrRefusal}
 use Rattle.steps.proofs.Chains.{got, stop, seen_given, seen_stopped, seen_word, seen_refusal, some_allocated, none_allocated}
 use Rattle.steps.proofs.Words.{register_at_temporary, taken_number, source_operand, is_refusal_refusal, is_inner_inner, value_of_inner}
+use Rattle.codegen.specs.declared.flat.Asked.{Asked}
 use Rattle.codegen.specs.Ready.{node_word_of}
 use Rattle.codegen.specs.Kinds.{name_kind, binary_kind}
-use Rattle.codegen.specs.Flat.{is_flat, ask_operand, ask_register, ask_into, needing, flat_node}
+use Rattle.codegen.specs.Flat.{is_flat, needing, name_dest, flat_node}
 use Rattle.codegen.proofs.Walk.{is_literal_lem, no_literal, literal_expression, literal_materialized, in_register}
-use Rattle.codegen.proofs.FlatNodes.{no_inner, literal_flat, literal_itself, name_flat, binary_flat}
+use Rattle.codegen.proofs.FlatNodes.{no_inner, own_dest, literal_flat, literal_itself, name_flat, binary_flat}
 
 -- ---- the word of an answer
 
@@ -228,28 +229,28 @@ binary_taken {t} checked i kind m =
 
 -- in the register given
 pub flat_into : {t : Tree} → Checked t → (i d : ℕ) (m m' : Made) (a : ℕ) → node_word t.nodes i 0 ≤ binary_kind → d < any →
-    settled (flat_node t ask_into d i m) ≡ seen t (operand_at (node t i)) m' a →
+    settled (flat_node t Asked.Into d i m) ≡ seen t (operand_at (node t i)) m' a →
     settled (lower_materializing (lower_expression free_temp t i) (Some (register_at d)) m) ≡ seen t register_at m' a
-unfolding lower_materializing needing
+unfolding lower_materializing needing name_dest
 flat_into {t} checked i d m m' a simple few tried = go (dec_lt (node_word t.nodes i 0) name_kind)
   where
     operand : name_kind ≤ node_word t.nodes i 0 → Dec (node_word t.nodes i 0 ≡ name_kind) →
         settled (lower_expression free_temp t i (Some (register_at d)) m) ≡ seen t (operand_at (node t i)) m' a
-    operand later (yes e) = rw (name_flat t ask_into d i m e) at tried
-    operand later (no h) = rw (binary_flat t ask_into d i m (omega arith), ne_eqb d none (omega arith)) at tried
+    operand later (yes e) = rw (name_flat t Asked.Into d i m e) at tried
+    operand later (no h) = rw (binary_flat t Asked.Into d i m (omega arith), ne_eqb d none (omega arith)) at tried
 
     go : Dec (node_word t.nodes i 0 < name_kind) → settled (lower_materializing (lower_expression free_temp t i) (Some (register_at d)) m) ≡ seen t register_at m' a
     go (yes early) =
         ap (λ w. settled (w m)) (literal_materialized t i (is_literal_lem t i early) (Some (register_at d)))
         ∙ (loaded t (node t i) (load_constant (literal (node t i)) (Some (register_at d)) m) m' a
-        (rw (literal_flat t ask_into d i m early (omega arith), ne_eqb d none (omega arith)) at tried))
+        (rw (literal_flat t Asked.Into d i m early (λ e. cc), ne_eqb d none (omega arith)) at tried))
     go (no h) =
         let later : name_kind ≤ node_word t.nodes i 0 = omega arith in
         in_register t (node t i) (Some (register_at d)) (lower_expression free_temp t i (Some (register_at d)) m) m' a
         (expression_register t i (no_literal checked i later) (Some (register_at d)) m) (operand later (ℕ_discrete (node_word t.nodes i 0) name_kind))
 
 -- with no destination, where d is the register taken beforehand
-module _ {t : Tree} (checked : Checked t) (i asked : ℕ) (m m' : Made) (a d : ℕ) {after : Taken} (took : after ≡ taken (registers_of m)) (number : d ≡ number_at after.place)
+module _ {t : Tree} (checked : Checked t) (i : ℕ) (asked : Asked) (m m' : Made) (a d : ℕ) {after : Taken} (took : after ≡ taken (registers_of m)) (number : d ≡ number_at after.place)
     (simple : node_word t.nodes i 0 ≤ binary_kind) (word : WordOrRefusal a)
     (tried : (rs : RegisterSet) → settled (flat_node t asked d i (with_registers rs m)) ≡ seen t (operand_at (node t i)) (with_registers rs m') a) where
   name_stays : node_word t.nodes i 0 ≡ name_kind → Holds (λ x m₁. Stays (source x)) (lower_expression free_temp t i None m)
@@ -261,7 +262,7 @@ module _ {t : Tree} (checked : Checked t) (i asked : ℕ) (m m' : Made) (a d : �
       go (Err refusal) e = void
 
   -- a name or an operator
-  later_operand : name_kind ≤ node_word t.nodes i 0 → asked ≢ ask_into →
+  later_operand : name_kind ≤ node_word t.nodes i 0 → asked ≢ Asked.Into →
       settled (lower_expression free_temp t i None m) ≡ seen t (operand_at (node t i)) (keeping m after.set d a m') a
   unfolding lower_materializing
   later_operand later q = go (ℕ_discrete (node_word t.nodes i 0) name_kind)
@@ -269,7 +270,7 @@ module _ {t : Tree} (checked : Checked t) (i asked : ℕ) (m m' : Made) (a d : �
       go : Dec (node_word t.nodes i 0 ≡ name_kind) → settled (lower_expression free_temp t i None m) ≡ seen t (operand_at (node t i)) (keeping m after.set d a m') a
       go (yes e) =
           stays t (node t i) m m' a d took number (lower_expression free_temp t i None m) (name_stays e)
-          (rw (name_flat t asked d i m e, ne_eqb asked ask_into q) at (tried (registers_of m)))
+          (rw (name_flat t asked d i m e, own_dest asked d q) at (tried (registers_of m)))
       go (no h) =
           let kind : node_word t.nodes i 0 ≡ binary_kind = omega arith in
           let into : (e : Register) (m₁ : Made) → OnlyAnswer (Operand.Register e) (lower_expression free_temp t i (Some e) m₁) =
@@ -279,7 +280,7 @@ module _ {t : Tree} (checked : Checked t) (i asked : ℕ) (m m' : Made) (a d : �
           (λ rs. rw (binary_flat t asked d i (with_registers rs m) kind) at (tried rs)))
 
   -- a literal is its operand
-  literal_operand : node_word t.nodes i 0 < name_kind → asked ≡ ask_operand →
+  literal_operand : node_word t.nodes i 0 < name_kind → asked ≡ Asked.Operand →
       settled (lower_expression free_temp t i None m) ≡ seen t (operand_at (node t i)) (keeping m after.set d a m') a
   unfolding Stays settled
   literal_operand early q =
@@ -288,7 +289,7 @@ module _ {t : Tree} (checked : Checked t) (i asked : ℕ) (m m' : Made) (a d : �
       (rw (literal_itself t asked d i m early q) at (tried (registers_of m))))
 
   -- or is loaded
-  literal_register : node_word t.nodes i 0 < name_kind → asked ≢ ask_operand →
+  literal_register : node_word t.nodes i 0 < name_kind → asked ≢ Asked.Operand →
       settled (lower_materializing (lower_expression free_temp t i) None m) ≡ seen t register_at (keeping m after.set d a m') a
   unfolding load_constant destination bind
   literal_register early q =
@@ -300,29 +301,29 @@ module _ {t : Tree} (checked : Checked t) (i asked : ℕ) (m m' : Made) (a d : �
       ∙ takes t (node t i) m m' a d took number (λ e m₁. bind (load e m₁) (λ r. ret (Operand.Register r))) (λ e m₁. answered_into e (load e m₁) (into e m₁)) word
       (λ rs. rw (literal_flat t asked d i (with_registers rs m) early q) at (tried rs))))
 
-  flat_operand : asked ≡ ask_operand →
+  flat_operand : asked ≡ Asked.Operand →
       settled (lower_expression free_temp t i None m) ≡ seen t (operand_at (node t i)) (keeping m after.set d a m') a
   flat_operand q = go (dec_lt (node_word t.nodes i 0) name_kind)
     where
       go : Dec (node_word t.nodes i 0 < name_kind) → settled (lower_expression free_temp t i None m) ≡ seen t (operand_at (node t i)) (keeping m after.set d a m') a
       go (yes early) = literal_operand early q
-      go (no h) = later_operand (omega arith) (omega arith)
+      go (no h) = later_operand (omega arith) (λ e. cc)
 
-  flat_register : asked ≡ ask_register →
+  flat_register : asked ≡ Asked.Register →
       settled (lower_materializing (lower_expression free_temp t i) None m) ≡ seen t register_at (keeping m after.set d a m') a
   unfolding lower_materializing
   flat_register q = go (dec_lt (node_word t.nodes i 0) name_kind)
     where
       go : Dec (node_word t.nodes i 0 < name_kind) →
           settled (lower_materializing (lower_expression free_temp t i) None m) ≡ seen t register_at (keeping m after.set d a m') a
-      go (yes early) = literal_register early (omega arith)
+      go (yes early) = literal_register early (λ e. cc)
       go (no h) =
           let later : name_kind ≤ node_word t.nodes i 0 = omega arith in
           in_register t (node t i) None (lower_expression free_temp t i None m) (keeping m after.set d a m') a
-          (expression_register t i (no_literal checked i later) None m) (later_operand later (omega arith))
+          (expression_register t i (no_literal checked i later) None m) (later_operand later (λ e. cc))
 
 -- the same, by what `lower_flat` ensures, and by the registers that are held afterwards
-module _ (nodes names code code' pool pool' marks marks' : List ℕ) (i asked d : ℕ) (s : State) (rs : RegisterSet) (f : AnswerAndCounts) {after : Taken} {A : Type 0} (took : after ≡ taken s.registers)
+module _ (nodes names code code' pool pool' marks marks' : List ℕ) (i : ℕ) (asked : Asked) (d : ℕ) (s : State) (rs : RegisterSet) (f : AnswerAndCounts) {after : Taken} {A : Type 0} (took : after ≡ taken s.registers)
     (number : d ≡ number_at after.place) (held : rs ≡ holding s.registers after.set d f.answer) (simple : node_word_of nodes i 0 ≤ binary_kind) (small : i < word_end)
     (left : is_flat nodes i ≡ false → (f ≡ record { instructions = s.instructions; constants = s.constants; answer = word_end + i }) × A)
     (word : is_flat nodes i ≡ true → WordOrRefusal f.answer)
@@ -330,7 +331,7 @@ module _ (nodes names code code' pool pool' marks marks' : List ℕ) (i asked d 
     settled (flat_node (tree_of nodes list names) asked d i (made code pool marks (state_of rs s.instructions s.constants n)))
     ≡ seen (tree_of nodes list names) (operand_at (node_at (words nodes) i)) (made code' pool' marks' (state_of rs f.instructions f.constants n)) f.answer)
     (list : List ℕ) (checked : Checked (tree_of nodes list names)) (told : is_inner f.answer ≡ false) where
-  pub peeked_operand : asked ≡ ask_operand →
+  pub peeked_operand : asked ≡ Asked.Operand →
       settled (lower_expression free_temp (tree_of nodes list names) i None (made code pool marks s))
       ≡ seen (tree_of nodes list names) (operand_at (node_at (words nodes) i)) (made code' pool' marks' (state_of rs f.instructions f.constants s.marks)) f.answer
   peeked_operand q =
@@ -339,7 +340,7 @@ module _ (nodes names code code' pool pool' marks marks' : List ℕ) (i asked d 
       (flat_operand checked i asked (made code pool marks s) (made code' pool' marks' (state_of rs f.instructions f.constants s.marks)) f.answer d took number simple (word flat)
       (λ rs. tried list rs s.marks checked flat) q)
 
-  pub peeked_register : asked ≡ ask_register →
+  pub peeked_register : asked ≡ Asked.Register →
       settled (lower_materializing (lower_expression free_temp (tree_of nodes list names) i) None (made code pool marks s))
       ≡ seen (tree_of nodes list names) register_at (made code' pool' marks' (state_of rs f.instructions f.constants s.marks)) f.answer
   peeked_register q =

@@ -4,7 +4,7 @@ use Prim.Native.Nat.{ℕ, zero, suc, ◌+◌, ◌%◌, ◌<◌, ◌≤◌}
 use native.Mathlib.Omega.{arith}
 use native.Mathlib.Decide.{dec_lt, ℕ_discrete}
 use mathlib.Core.Path.{◌≡◌, refl, sym, ◌∙◌, ap}
-use mathlib.Core.Logic.{◌≢◌, inl, inr}
+use mathlib.Core.Logic.{◌≢◌}
 use mathlib.Core.Bool.{Bool, true, false, cond, ◌||◌, false≢true}
 use mathlib.Core.List.{List}
 use lib.Dec.{ltb, eqb}
@@ -27,7 +27,7 @@ use Rattle.lowering.specs.Steps.{free_temp, emit}
 use Rattle.lowering.specs.Literals.{literal}
 use Rattle.lowering.specs.Lower.{same_register, moved, lower_name, lower_materializing, lower_node, expression_below, lower_expression}
 use Rattle.lowering.proofs.Destinations.{block_into, node_kind}
-use Rattle.steps.specs.Answers.{none, any, register_at, dest_of, operand_at, word_end, refusal_start, refusal_at, is_refusal, names_node, error_at, settled, seen}
+use Rattle.steps.specs.Answers.{any, register_at, dest_of, operand_at, word_end, refusal_start, refusal_at, is_refusal, names_node, error_at, settled, seen}
 use Rattle.steps.proofs.Chains.{seen_refusal}
 use Rattle.steps.proofs.Words.{register_at_local}
 use Rattle.codegen.specs.Ready.{InArena, node_word_of}
@@ -94,7 +94,7 @@ module _ {nodes : List ℕ} (falling : Falling nodes) {node n kind tail : ℕ} (
 
 -- ---- a name
 
--- what was found, as a word: a local's, or none
+-- what was found, as a word: a local's, if there is one
 module _ (names : List ℕ) (n name : ℕ) {f : Result Register Refusal} (found : f ≡ lookup names n name) where
   last : {register : Register} → f ≡ Ok register → Last names n name register
   last e = lookup_found names n name _ (sym found ∙ e)
@@ -104,21 +104,20 @@ module _ (names : List ℕ) (n name : ℕ) {f : Result Register Refusal} (found 
       let differ : ◌≡◌ {A = ℕ} 0 1 = cc (last e).local in
       omega arith
 
-  pub found_local : {r : ℕ} → f ≡ Ok (Register.Local r) → n ≤ 256 → (found_at (256 + r % 256) ≡ lookup names n name) × LocalOr (256 + r % 256)
+  pub found_local : {r : ℕ} → f ≡ Ok (Register.Local r) → n ≤ 256 → (found_at (Some (256 + r % 256)) ≡ lookup names n name) × LocalOr (Some (256 + r % 256))
   unfolding found_at
   found_local {r} e h =
       let same : r ≡ (last e).index = cc (last e).local in
       let below : r < 256 = omega (arith, (last e).in_range) in
-      (rw (← found, e, ne_eqb (256 + r % 256) none (omega arith), register_at_local r below), inr (omega arith, omega arith))
+      (rw (← found, e, register_at_local r below), (omega arith, omega arith))
 
-  pub found_none : {refusal : Refusal} → f ≡ Err refusal → found_at none ≡ lookup names n name
+  pub found_none : {refusal : Refusal} → f ≡ Err refusal → found_at None ≡ lookup names n name
   unfolding found_at
   found_none e = rw (← found, e, (lookup_refused names n name _ (sym found ∙ e)).reason)
 
 -- a name that was found is in a local
-pub local_word : {w : ℕ} → LocalOr w → w ≢ none → (256 ≤ w) × (w < any)
-local_word (inl e) h = absurd (h e)
-local_word (inr l) h = l
+pub local_word : {o : Option ℕ} {w : ℕ} → LocalOr o → o ≡ Some w → (256 ≤ w) × (w < any)
+local_word l e = rw e at l
 
 -- a destination is a local if its word is the local's
 pub same_word : (a b : ℕ) → a < any → 256 ≤ b → b < any → same_register (register_at a) (register_at b) ≡ eqb a b
@@ -153,15 +152,15 @@ module _ (t : Tree) (i : ℕ) (m : Made) where
   name_of dest kind found q = ap settled (named_at dest kind found) ∙ q
 
   -- it is not declared
-  pub name_undeclared : (dest : Option Register) (gives : ℕ → Operand) {w : ℕ} → i < word_end → w ≡ none → settled (lower_name t i (found_at w) dest m) ≡ seen t gives m (refusal_at Refusal.Undeclared i)
+  pub name_undeclared : (dest : Option Register) (gives : ℕ → Operand) {o : Option ℕ} → i < word_end → o ≡ None → settled (lower_name t i (found_at o) dest m) ≡ seen t gives m (refusal_at Refusal.Undeclared i)
   unfolding lower_name found_at settled error_at names_node
-  name_undeclared dest gives {w} h e = rw (eq-eqb w none e) (sym (seen_refusal t gives m Refusal.Undeclared i h))
+  name_undeclared dest gives h e = rw e (sym (seen_refusal t gives m Refusal.Undeclared i h))
 
-  module _ {dest w : ℕ} (dest_small : dest ≤ any) (local : LocalOr w) (declared : w ≢ none) where
+  module _ {dest w : ℕ} {o : Option ℕ} (dest_small : dest ≤ any) (local : LocalOr o) (declared : o ≡ Some w) where
     -- any register will do, or its own was asked for
-    pub name_own : (n : Node) → eqb dest any || eqb dest w ≡ true → settled (lower_name t i (found_at w) (dest_of dest) m) ≡ seen t (operand_at n) m w
+    pub name_own : (n : Node) → eqb dest any || eqb dest w ≡ true → settled (lower_name t i (found_at o) (dest_of dest) m) ≡ seen t (operand_at n) m w
     unfolding lower_name found_at moved dest_of settled
-    name_own n own = rw (ne_eqb w none declared) (go (ℕ_discrete dest any))
+    name_own n own = rw declared (go (ℕ_discrete dest any))
       where
         go : Dec (dest ≡ any) → settled (moved t (register_at w) (cond (eqb dest any) None (Some (register_at dest))) m) ≡ seen t (operand_at n) m w
         go (yes e) = rw (eq-eqb dest any e) (ended t n m w (local_word local declared).1)
@@ -173,13 +172,13 @@ module _ (t : Tree) (i : ℕ) (m : Made) where
     -- another one was
     pub name_moved : {r : Outcome Operand} → eqb dest any || eqb dest w ≡ false →
         settled (bind (emit (Instruction.Move (reg_of (register_at dest)) (reg_of (register_at w))) m) (λ p. ret (Operand.Register (register_at dest)))) ≡ r →
-        settled (lower_name t i (found_at w) (dest_of dest) m) ≡ r
+        settled (lower_name t i (found_at o) (dest_of dest) m) ≡ r
     unfolding lower_name found_at moved dest_of
     name_moved another q =
         let small = another_small dest w dest_small another in
         let e : dest ≢ any = omega arith in
         let differs : eqb dest w ≡ false = rw (ne_eqb dest any e) at another in
-        rw (ne_eqb w none declared, ne_eqb dest any e, same_word dest w small (local_word local declared).0 (local_word local declared).1, differs) q
+        rw (declared, ne_eqb dest any e, same_word dest w small (local_word local declared).0 (local_word local declared).1, differs) q
 
 -- ---- an answer
 

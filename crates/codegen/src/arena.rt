@@ -14,7 +14,7 @@ ghost use Rattle.codegen.specs.Flat.{Falling, found_at, LocalOr};
 use environment::{Register, lookup};
 use runtime::operand::Operand;
 use runtime::value::number;
-use steps::answer::{LITERAL, NONE, local};
+use steps::answer::{LITERAL, local};
 use syntax::ast::NODE_WORDS;
 use syntax::kind;
 use words::word;
@@ -84,17 +84,17 @@ impl Arena<'_> {
         Operand::Nil
     }
 
-    // The register of a name, or NONE.
+    // The register of a name, if it is declared.
     #[tactic(auto, using(words::proofs::Words::length_words))]
-    pub(crate) fn find(&self, name: u32) -> u32
+    pub(crate) fn find(&self, name: u32) -> Option<u32>
         ensures found { found_at result ≡ lookup (words self.now.names.now) (length (words self.now.names.now)) name }
         ensures local { LocalOr result }
     {
         let arity = (self.names.len() / 4) as u32;
         match lookup(self.names, arity, name) {
-            Ok(Register::Local(r)) => local(r),
-            Ok(Register::Temp(_)) => NONE,
-            Err(_) => NONE,
+            Ok(Register::Local(r)) => Some(local(r)),
+            Ok(Register::Temp(_)) => None,
+            Err(_) => None,
         }
     }
 }

@@ -1,7 +1,7 @@
 // Flat nodes: literals, names, and operators on these, not on two literals. They are lowered without the walk, on two counts and a register that is given.
 // `peek`, `peek_into` and `peek_jump` try a child, and `flat_entry` an entry of a map; `binary_operation` and `fused_jump` end an operator whose operands the
 // walk has lowered.
-ghost use Rattle.std.specs.Prelude.{◌≡◌, ◌≢◌, Bool, true, false, cond, ◌&&◌, List, ℕ, ◌+◌, ◌≤◌, ◌<◌, leb, eqb, length, Option, Some, None};
+ghost use Rattle.std.specs.Prelude.{◌≡◌, ◌≢◌, true, false, cond, ◌&&◌, List, ℕ, ◌+◌, ◌≤◌, ◌<◌, leb, eqb, length, Option, Some, None};
 ghost use Rattle.words.specs.Words.{words};
 ghost use Rattle.environment.specs.declared.Register.{Register};
 ghost use Rattle.environment.specs.declared.RegisterSet.{RegisterSet};
@@ -12,7 +12,7 @@ ghost use Rattle.syntax.specs.Ast.{absent, node_at};
 ghost use Rattle.runtime.specs.declared.operand.Operand.{Operand};
 ghost use Rattle.lowering.specs.Tree.{Tree, tree_of};
 ghost use Rattle.lowering.specs.Checked.{Checked};
-ghost use Rattle.lowering.specs.Walk.{Made, Walk, made, ret};
+ghost use Rattle.lowering.specs.Walk.{Made, Walk, ret};
 ghost use Rattle.lowering.specs.Operators.{comparison};
 ghost use Rattle.lowering.specs.Literals.{literal};
 ghost use Rattle.lowering.specs.Steps.{free_temp, load_constant};
@@ -21,7 +21,8 @@ ghost use Rattle.steps.specs.Answers.{register_at, any, literal_word, operand_at
 ghost use Rattle.codegen.specs.Walks.{Kept, made_of, Untouched, NothingDone};
 ghost use Rattle.codegen.specs.Ready.{InArena, node_word_of};
 ghost use Rattle.codegen.specs.Kinds.{name_kind, binary_kind, key_operand, set_opcode};
-ghost use Rattle.codegen.specs.Flat.{Falling, Given, are_leaves, is_flat, found_at, LocalOr, ask_operand, ask_register, ask_into, needing, flat_node};
+ghost use Rattle.codegen.specs.declared.flat.Asked.{Asked};
+ghost use Rattle.codegen.specs.Flat.{Given, are_leaves, is_flat, found_at, LocalOr, needing, flat_node};
 
 use crate::arena::{Arena, Buffers};
 use diagnostics::Refusal;
@@ -39,14 +40,15 @@ use syntax::kind;
 use syntax::ops::BinaryOp;
 
 // What is asked of a flat node: its operand (a literal stays one), its value in a register, or its value in the register given.
-pub(crate) const OPERAND: u32 = 0;
-
-pub(crate) const REGISTER: u32 = 1;
-
-const INTO: u32 = 2;
+#[derive(Clone, Copy, PartialEq, Eq)]
+pub(crate) enum Asked {
+    Operand,
+    Register,
+    Into,
+}
 
 impl Arena<'_> {
-    // The node that a block comes to, where the destination is given: its tail's tail, and so on.
+    // The node that a block comes to, where the destination is given: its tail's tail, and so on. A `while`: it follows the tails, and counts nothing.
     pub(crate) fn tail_of(&self, node: u32) -> u32
         requires { InArena self.now.nodes.now node }
         ensures inside { InArena self.now.nodes.now result × (result ≤ node) }
@@ -65,17 +67,17 @@ impl Arena<'_> {
         n
     }
 
-    // A leaf with no destination: LITERAL, or the register of a name, or NONE.
-    pub(crate) fn leaf_operand(&self, node: u32) -> u32
+    // A leaf with no destination: LITERAL, or the register of a name, if it is declared.
+    pub(crate) fn leaf_operand(&self, node: u32) -> Option<u32>
         requires { InArena self.now.nodes.now node }
         ensures name { node_word_of self.now.nodes.now node 0 ≡ name_kind →
             (found_at result ≡ lookup (words self.now.names.now) (length (words self.now.names.now)) (node_word_of self.now.nodes.now node 1)) × LocalOr result }
-        ensures literal { node_word_of self.now.nodes.now node 0 ≢ name_kind → result ≡ literal_word }
+        ensures literal { node_word_of self.now.nodes.now node 0 ≢ name_kind → result ≡ Some literal_word }
     {
         if self.node_word(node, 0) == kind::IDENTIFIER {
             return self.find(self.node_word(node, 1));
         }
-        LITERAL
+        Some(LITERAL)
     }
 
     // A literal in d, if there is a register: pool, LoadConst.
@@ -126,10 +128,10 @@ impl Arena<'_> {
         instructions: u32,
         pooled: u32,
         node: u32,
-        asked: u32,
+        asked: Asked,
         d: u32,
     ) -> AnswerAndCounts
-        requires { InArena self.now.nodes.now node × ((node_word_of self.now.nodes.now node 0 ≡ name_kind) × (asked ≡ ask_into → d < any)) }
+        requires { InArena self.now.nodes.now node × ((node_word_of self.now.nodes.now node 0 ≡ name_kind) × (asked ≡ Asked.Into → d < any)) }
         ensures step { (list : List ℕ) (rs : RegisterSet) (n : ℕ) →
             settled (flat_node (tree_of self.now.nodes.now list self.now.names.now) asked d node
             (made_of buffers.old (state_of rs instructions pooled n)))
@@ -137,11 +139,10 @@ impl Arena<'_> {
         ensures word { WordOrRefusal result.answer }
         ensures kept { Kept buffers.old buffers.new }
     {
-        let register = self.find(self.node_word(node, 1));
-        if register == NONE {
+        let Some(register) = self.find(self.node_word(node, 1)) else {
             return left_alone(instructions, pooled, refusal_at(Refusal::Undeclared, node));
-        }
-        if (asked != INTO) | (register == d) {
+        };
+        if (asked != Asked::Into) | (register == d) {
             return left_alone(instructions, pooled, register as u64);
         }
         let emitted = emit_instruction(
@@ -198,14 +199,12 @@ impl Arena<'_> {
         if d == NONE {
             return left_alone(instructions, pooled, refusal_at(Refusal::Registers, 0));
         }
-        let src1 = self.leaf_operand(left);
-        if src1 == NONE {
+        let Some(src1) = self.leaf_operand(left) else {
             return left_alone(instructions, pooled, refusal_at(Refusal::Undeclared, left));
-        }
-        let src2 = self.leaf_operand(right);
-        if src2 == NONE {
+        };
+        let Some(src2) = self.leaf_operand(right) else {
             return left_alone(instructions, pooled, refusal_at(Refusal::Undeclared, right));
-        }
+        };
         let operator = BinaryOp::of(self.node_word(node, 1));
         let constant = self.literal_of(left, right, src1, src2);
         binary_sources(
@@ -229,10 +228,10 @@ impl Arena<'_> {
         instructions: u32,
         pooled: u32,
         node: u32,
-        asked: u32,
+        asked: Asked,
         d: u32,
     ) -> AnswerAndCounts
-        requires { InArena self.now.nodes.now node × (Given d × (asked ≡ ask_into → d < any)) }
+        requires { InArena self.now.nodes.now node × (Given d × (asked ≡ Asked.Into → d < any)) }
         ensures step { (list : List ℕ) (rs : RegisterSet) (n : ℕ) → Checked (tree_of self.now.nodes.now list self.now.names.now) → is_flat self.now.nodes.now node ≡ true →
             settled (flat_node (tree_of self.now.nodes.now list self.now.names.now) asked d node (made_of buffers.old (state_of rs instructions pooled n)))
             ≡ seen (tree_of self.now.nodes.now list self.now.names.now) (operand_at (node_at (words self.now.nodes.now) node)) (made_of buffers.new (state_of rs result.instructions result.constants n)) result.answer }
@@ -243,7 +242,7 @@ impl Arena<'_> {
     {
         let kind = self.node_word(node, 0);
         if kind < kind::IDENTIFIER {
-            if asked == OPERAND {
+            if asked == Asked::Operand {
                 return left_alone(instructions, pooled, LITERAL as u64);
             }
             return self.literal_into(buffers, instructions, pooled, node, d);
@@ -265,20 +264,20 @@ impl Arena<'_> {
         self.node_word(node, 0) <= kind::BINARY
     }
 
-    // A flat child with no destination: its operand (OPERAND), or its value in a register (REGISTER), which is taken if it needs one. Any other child is left to
-    // the walk, and nothing is done.
+    // A flat child with no destination: its operand, or its value in a register, which is taken if it needs one. Any other child is left to the walk, and
+    // nothing is done.
     pub(crate) fn peek(
         &self,
         buffers: &mut Buffers,
         state: State,
         node: u32,
-        asked: u32,
+        asked: Asked,
     ) -> AnswerAndState
-        requires { InArena self.now.nodes.now node × (asked ≤ ask_register) }
-        ensures operand { (list : List ℕ) → Checked (tree_of self.now.nodes.now list self.now.names.now) → is_inner result.answer ≡ false → asked ≡ ask_operand →
+        requires { InArena self.now.nodes.now node × (asked ≢ Asked.Into) }
+        ensures operand { (list : List ℕ) → Checked (tree_of self.now.nodes.now list self.now.names.now) → is_inner result.answer ≡ false → asked ≡ Asked.Operand →
             settled (lower_expression free_temp (tree_of self.now.nodes.now list self.now.names.now) node None (made_of buffers.old state))
             ≡ seen (tree_of self.now.nodes.now list self.now.names.now) (operand_at (node_at (words self.now.nodes.now) node)) (made_of buffers.new result.state) result.answer }
-        ensures register { (list : List ℕ) → Checked (tree_of self.now.nodes.now list self.now.names.now) → is_inner result.answer ≡ false → asked ≡ ask_register →
+        ensures register { (list : List ℕ) → Checked (tree_of self.now.nodes.now list self.now.names.now) → is_inner result.answer ≡ false → asked ≡ Asked.Register →
             settled (lower_materializing (lower_expression free_temp (tree_of self.now.nodes.now list self.now.names.now) node) None (made_of buffers.old state))
             ≡ seen (tree_of self.now.nodes.now list self.now.names.now) register_at (made_of buffers.new result.state) result.answer }
         ensures inner { is_inner result.answer ≡ true → NothingDone buffers.old buffers.new state result × ((value_of result.answer ≡ node) × (binary_kind ≤ node_word_of self.now.nodes.now node 0)) }
@@ -291,6 +290,7 @@ impl Arena<'_> {
             let taken = registers.take();
             let set = taken.set;
             let place = taken.place;
+            // NONE where no register is free. As an Option it was slower: the flat nodes then took a few per cent more time.
             let register = number_at(place);
             let f = self.lower_flat(buffers, s.instructions, s.constants, node, asked, register);
             if f.answer == (register as u64) {
@@ -325,7 +325,7 @@ impl Arena<'_> {
         let tail = self.tail_of(node);
         let mut answer = inner(tail);
         if self.is_simple(tail) {
-            let f = self.lower_flat(buffers, s.instructions, s.constants, tail, INTO, d);
+            let f = self.lower_flat(buffers, s.instructions, s.constants, tail, Asked::Into, d);
             s.instructions = f.instructions;
             s.constants = f.constants;
             answer = f.answer;
@@ -351,10 +351,9 @@ impl Arena<'_> {
         ensures word { WordOrRefusal result.answer }
         ensures kept { Kept buffers.old buffers.new }
     {
-        let register = self.find(self.node_word(node, 1));
-        if register == NONE {
+        let Some(register) = self.find(self.node_word(node, 1)) else {
             return left_alone(instructions, pooled, refusal_at(Refusal::Undeclared, node));
-        }
+        };
         let emitted = emit_instruction(
             buffers.code,
             instructions,
@@ -396,14 +395,12 @@ impl Arena<'_> {
         if !self.are_leaves(left, right) {
             return left_alone(instructions, pooled, inner(node));
         }
-        let src1 = self.leaf_operand(left);
-        if src1 == NONE {
+        let Some(src1) = self.leaf_operand(left) else {
             return left_alone(instructions, pooled, refusal_at(Refusal::Undeclared, left));
-        }
-        let src2 = self.leaf_operand(right);
-        if src2 == NONE {
+        };
+        let Some(src2) = self.leaf_operand(right) else {
             return left_alone(instructions, pooled, refusal_at(Refusal::Undeclared, right));
-        }
+        };
         let constant = self.literal_of(left, right, src1, src2);
         fused_sources(
             buffers.code,
@@ -511,10 +508,9 @@ impl Arena<'_> {
         if (kind::IDENTIFIER < kind) | (kind::IDENTIFIER < self.node_word(child, 0)) {
             return left_alone(instructions, pooled, inner(key));
         }
-        let src = self.leaf_operand(child);
-        if src == NONE {
+        let Some(src) = self.leaf_operand(child) else {
             return left_alone(instructions, pooled, refusal_at(Refusal::Undeclared, child));
-        }
+        };
         let first_field = store_constant(buffers.constants, pooled, self.key_operand(key));
         let Ok(first) = first_field.place else {
             return left_alone(instructions, pooled, refusal_at(Refusal::Constants, 0));

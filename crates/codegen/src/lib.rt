@@ -7,7 +7,7 @@ mod lower_expression;
 
 ghost use Rattle.std.specs.Prelude.{◌≡◌, List, ◌++◌, ℕ, ◌<◌};
 ghost use Rattle.words.specs.Words.{words, tail, bytes_of};
-ghost use Rattle.lowering.specs.Tree.{Tree, tree_of};
+ghost use Rattle.lowering.specs.Tree.{Tree};
 ghost use Rattle.lowering.specs.Questions.{passed, questions};
 ghost use Rattle.lowering.specs.Walk.{made, bind, ret};
 ghost use Rattle.lowering.specs.Steps.{free_temp, patch_arguments};
@@ -19,7 +19,7 @@ ghost use Rattle.result.specs.Numbers.{numbers};
 ghost use Rattle.codegen.specs.Roots.{conditional};
 
 use crate::arena::{Arena, Buffers};
-use crate::flat::REGISTER;
+use crate::flat::Asked;
 use diagnostics::Refusal;
 use environment::RegisterSet;
 use lowering::State;
@@ -54,7 +54,7 @@ impl Arena<'_> {
         ensures lowers { Walks (λ t. place_at) (λ t. lower_root free_temp t 0 root) self.now buffers.old buffers.new state result }
         ensures kept { Kept buffers.old buffers.new }
     {
-        let f = self.peek(buffers, state, root, REGISTER);
+        let f = self.peek(buffers, state, root, Asked::Register);
         let r = self.lower_materializing(buffers, state, f, ANY);
         if is_refusal(r.answer) {
             return r;
@@ -123,6 +123,7 @@ fn lower_lent(
 }
 
 impl Arena<'_> {
+    // The root by its mode. A mode stays a number here: document 01 numbers the modes, and the definition of `lower_root` matches on the number.
     pub(crate) fn lower_root(
         &self,
         buffers: &mut Buffers,

@@ -1,7 +1,7 @@
 // The walk (kaori's codegen/lower_expression.rs, and `lower_materializing` and `lower_jump_if_false` of lower_ast.rs): a node is lowered by lowering the nodes
 // that it names, which are lower. One function an arm, in kaori's order. `dest` is the register that is to hold the value, or ANY. A child is tried first
 // (`peek`, `peek_into`), and walked if it is not flat. A state that is passed on is a copy of its own: the walk's own state then stays in machine registers.
-ghost use Rattle.std.specs.Prelude.{◌≡◌, ◌≢◌, ◌⊎◌, true, false, List, [], ◌∷◌, ℕ, ◌≤◌, length, Option};
+ghost use Rattle.std.specs.Prelude.{◌≡◌, ◌≢◌, ◌⊎◌, true, false, List, [], ◌∷◌, ℕ, ◌≤◌, Option};
 ghost use Rattle.environment.specs.declared.Register.{Register};
 ghost use Rattle.words.specs.Words.{words};
 ghost use Rattle.syntax.specs.Ops.{binary_op, unary_op};
@@ -11,18 +11,17 @@ ghost use Rattle.runtime.specs.Instruction.{words_of};
 ghost use Rattle.runtime.specs.Opcode.{opcode_number};
 ghost use Rattle.lowering.specs.Operators.{unary};
 ghost use Rattle.lowering.specs.Tree.{Tree, tree_of};
-ghost use Rattle.lowering.specs.Walk.{Walk, made};
+ghost use Rattle.lowering.specs.Walk.{Walk};
 ghost use Rattle.lowering.specs.Steps.{free_temp};
 ghost use Rattle.lowering.specs.Literals.{literal};
 ghost use Rattle.lowering.specs.Lower.{name_of, store_keyed, lower_arguments, lower_entry, test, jump_node, lower_expression, lower_jump_if_false};
 ghost use Rattle.steps.specs.Answers.{any, register_at, dest_of, operand_at, source_at, place_at, unit_at, settled, seen, is_inner, value_of, DestOrRefusal};
 ghost use Rattle.codegen.specs.Walks.{Kept, made_of, Untouched, Walks};
 ghost use Rattle.codegen.specs.Ready.{InArena, node_word_of, EntryBelow};
-ghost use Rattle.codegen.specs.Flat.{Falling};
 ghost use Rattle.codegen.specs.Kinds.{name_kind, binary_kind, unary_kind, not_kind, and_kind, or_kind, if_kind, block_kind, call_kind, property_kind, map_kind, only_operand, key_operand, lower_literals, is_compared};
 
 use crate::arena::{Arena, Buffers};
-use crate::flat::{OPERAND, REGISTER, set_opcode};
+use crate::flat::{Asked, set_opcode};
 use diagnostics::Refusal;
 use lowering::State;
 use operators::{binary_rr, is_comparison, jump_if, swaps, unary};
@@ -31,8 +30,7 @@ use runtime::function::{emit_instruction, store_constant};
 use runtime::opcode::Opcode;
 use runtime::operand::Operand;
 use steps::answer::{
-    ANY, AnswerAndState, LITERAL, NONE, answered, is_inner, is_refusal, local, refused, reg_of,
-    value_of,
+    ANY, AnswerAndState, LITERAL, answered, is_inner, is_refusal, local, refused, reg_of, value_of,
 };
 use steps::sources::{field_of, first_of};
 use steps::step::{destination, load_constant, patch_to_next};
@@ -121,10 +119,9 @@ impl Arena<'_> {
         ensures kept { Kept buffers.old buffers.new }
     {
         let mut s = state;
-        let register = self.find(self.node_word(node, 1));
-        if register == NONE {
+        let Some(register) = self.find(self.node_word(node, 1)) else {
             return refused(s, Refusal::Undeclared, node);
-        }
+        };
         if (dest == ANY) | (dest == register) {
             return answered(s, register);
         }
@@ -164,14 +161,14 @@ impl Arena<'_> {
         }
         let d = value_of(t.answer);
         let s1 = t.state;
-        let f1 = self.peek(buffers, s1, left, OPERAND);
+        let f1 = self.peek(buffers, s1, left, Asked::Operand);
         let r1 = self.lower_materializing(buffers, s1, f1, ANY);
         if is_refusal(r1.answer) {
             return r1;
         }
         let src1 = value_of(r1.answer);
         let s2 = r1.state;
-        let f2 = self.peek(buffers, s2, right, OPERAND);
+        let f2 = self.peek(buffers, s2, right, Asked::Operand);
         let r2 = self.lower_materializing(buffers, s2, f2, ANY);
         if is_refusal(r2.answer) {
             return r2;
@@ -300,7 +297,7 @@ impl Arena<'_> {
         }
         let d = value_of(t.answer);
         let s1 = t.state;
-        let f1 = self.peek(buffers, s1, operand, REGISTER);
+        let f1 = self.peek(buffers, s1, operand, Asked::Register);
         let r1 = self.lower_materializing(buffers, s1, f1, ANY);
         if is_refusal(r1.answer) {
             return r1;
@@ -499,7 +496,7 @@ impl Arena<'_> {
         }
         let d = value_of(t.answer);
         let s1 = t.state;
-        let f1 = self.peek(buffers, s1, callee, REGISTER);
+        let f1 = self.peek(buffers, s1, callee, Asked::Register);
         let r1 = self.lower_materializing(buffers, s1, f1, ANY);
         if is_refusal(r1.answer) {
             return r1;
@@ -577,7 +574,7 @@ impl Arena<'_> {
         }
         let d = value_of(t.answer);
         let s1 = t.state;
-        let f1 = self.peek(buffers, s1, object, REGISTER);
+        let f1 = self.peek(buffers, s1, object, Asked::Register);
         let r1 = self.lower_materializing(buffers, s1, f1, ANY);
         if is_refusal(r1.answer) {
             return r1;
@@ -682,7 +679,7 @@ impl Arena<'_> {
         ensures kept { Kept buffers.old buffers.new }
     {
         if self.node_word(key, 0) <= kind::IDENTIFIER {
-            let f1 = self.peek(buffers, state, value, OPERAND);
+            let f1 = self.peek(buffers, state, value, Asked::Operand);
             let r1 = self.lower_materializing(buffers, state, f1, ANY);
             if is_refusal(r1.answer) {
                 return r1;
@@ -691,14 +688,14 @@ impl Arena<'_> {
             let src = value_of(r1.answer);
             return self.set_property(buffers, s1, d, key, value, LITERAL, src);
         }
-        let f2 = self.peek(buffers, state, key, OPERAND);
+        let f2 = self.peek(buffers, state, key, Asked::Operand);
         let r2 = self.lower_materializing(buffers, state, f2, ANY);
         if is_refusal(r2.answer) {
             return r2;
         }
         let src1 = value_of(r2.answer);
         let s2 = r2.state;
-        let f3 = self.peek(buffers, s2, value, OPERAND);
+        let f3 = self.peek(buffers, s2, value, Asked::Operand);
         let r3 = self.lower_materializing(buffers, s2, f3, ANY);
         if is_refusal(r3.answer) {
             return r3;
@@ -862,14 +859,14 @@ impl Arena<'_> {
         let left = self.node_word(node, 2);
         let right = self.node_word(node, 3);
         let s0 = state;
-        let f1 = self.peek(buffers, s0, left, OPERAND);
+        let f1 = self.peek(buffers, s0, left, Asked::Operand);
         let r1 = self.lower_materializing(buffers, s0, f1, ANY);
         if is_refusal(r1.answer) {
             return r1;
         }
         let src1 = value_of(r1.answer);
         let s1 = r1.state;
-        let f2 = self.peek(buffers, s1, right, OPERAND);
+        let f2 = self.peek(buffers, s1, right, Asked::Operand);
         let r2 = self.lower_materializing(buffers, s1, f2, ANY);
         if is_refusal(r2.answer) {
             return r2;

@@ -1,6 +1,5 @@
 // A text read, line by line, into the words of lent buffers.
 ghost use Rattle.std.specs.Prelude.{◌≡◌, ◌*◌, ◌&&◌, get_or, drop};
-ghost use Rattle.std.proofs.lemmas.List.Edits.{sets};
 ghost use Rattle.words.specs.Words.{words, tail};
 ghost use Rattle.listing.specs.Text.{read_as, read_line, read_lines, fill, header_of, list_at, names_at, text_bytes, within};
 ghost use Rattle.listing.specs.Text.{read_header, read_nodes, read_list, read_names, read_text, filled};

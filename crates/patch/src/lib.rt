@@ -1,7 +1,7 @@
 // The parts of the lowering (kaori's codegen/lower_ast.rs) that are not the walk itself: jumps and arguments, patched in the code, and marks.
 #![tactic(auto)]
 
-ghost use Rattle.std.specs.Prelude.{◌≡◌, cond, List, ◌++◌, ℕ, eqb};
+ghost use Rattle.std.specs.Prelude.{◌≡◌, List, ◌++◌, ℕ};
 ghost use Rattle.words.specs.Words.{words, tail, bytes_of};
 ghost use Rattle.words.specs.Records.{buffer};
 ghost use Rattle.lowering.specs.declared.State.{State};

@@ -16,6 +16,7 @@ use diagnostics::{Refusal, Refused};
 use runtime::value::is_nan;
 use syntax::ast::{ABSENT, NODE_WORDS};
 use syntax::kind;
+use syntax::ops::{BinaryOp, UnaryOp};
 use words::{WORD_BYTES, WORD_END, capacity, word};
 
 const NODE_BYTES: usize = WORD_BYTES * NODE_WORDS;
@@ -32,9 +33,9 @@ const LAST_MODE: u32 = 2;
 
 const LAST_KIND: u32 = kind::MAP;
 
-const LAST_BINARY_OP: u32 = 10;
+const LAST_BINARY_OP: u32 = BinaryOp::LessEqual as u32;
 
-const LAST_UNARY_OP: u32 = 1;
+const LAST_UNARY_OP: u32 = UnaryOp::Deref as u32;
 
 // The high word of minus zero, whose low word is 0.
 const MINUS_ZERO_HIGH: u32 = 0x8000_0000;

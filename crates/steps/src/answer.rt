@@ -10,14 +10,14 @@ use environment::REGISTERS;
 use lowering::State;
 use words::WORD_END;
 
-// The state afterwards, and the answer.
+// The state afterwards, and the answer. It is a word: a `Result` that holds the state was tried, and misses the speed that this form has (docs/DESIGN-PASS.md).
 #[derive(Clone, Copy)]
 pub struct AnswerAndState {
     pub state: State,
     pub answer: u64,
 }
 
-// The counts afterwards, and the answer, of a step that takes and gives back no register.
+// The counts afterwards, and the answer, of a step that takes and gives back no register. The answer is the same word.
 #[derive(Clone, Copy)]
 pub struct AnswerAndCounts {
     pub instructions: u32,
@@ -52,7 +52,7 @@ pub fn reg_of(register: u32) -> u32
     register % REGISTERS
 }
 
-// The register that was taken, or NONE.
+// The register that was taken, or NONE: the flat nodes take it as a word, which is quicker than an Option there.
 #[tactic(auto, unfolding(crate::specs::Answers::number_at))]
 pub fn number_at(place: Result<u32, Refusal>) -> u32
     ensures { result ≡ number_at place }

@@ -1,6 +1,6 @@
 // The end of an operator on two sources. One of them may be LITERAL, a constant: it is pooled, then one instruction is emitted. The functions take two counts and not
 // the state, since no register is taken or given back.
-ghost use Rattle.std.specs.Prelude.{◌≡◌, false, cond, ◌&&◌, List, [], ◌∷◌, ◌≢◌, ℕ, eqb, Option, Some, Ok};
+ghost use Rattle.std.specs.Prelude.{◌≡◌, false, ◌&&◌, List, [], ◌∷◌, ◌≢◌, ℕ, eqb, Option, Some, Ok};
 ghost use Rattle.environment.specs.declared.Register.{Register};
 ghost use Rattle.words.specs.Words.{words, tail};
 ghost use Rattle.words.specs.Records.{buffer};

@@ -81,7 +81,7 @@ arguments-returns-clause-lowers t c =
 -- ---- `entry`: a key that is a name or a literal, and its value; or the key, and then its value
 
 pub entry-peek-f1-requires : goal.entry-peek-f1-requires
-entry-peek-f1-requires t c = (child_in _ _ _ c.requires.0 c.requires.1.1, omega arith)
+entry-peek-f1-requires t c = (child_in _ _ _ c.requires.0 c.requires.1.1, λ e. cc)
 
 pub entry-returns-then-is_refusal-clause-lowers : goal.entry-returns-then-is_refusal-clause-lowers
 entry-returns-then-is_refusal-clause-lowers t c =
@@ -99,7 +99,7 @@ entry-returns-then-node_word-le-IDENTIFIER-clause-lowers t c =
     (rw (source_operand _ _) (c.set_property.ensures.lowers _ _)))
 
 pub entry-peek-f2-requires : goal.entry-peek-f2-requires
-entry-peek-f2-requires t c = (child_in _ _ _ c.requires.0 c.requires.1.0, omega arith)
+entry-peek-f2-requires t c = (child_in _ _ _ c.requires.0 c.requires.1.0, λ e. cc)
 
 pub entry-returns-then-is_refusal-2-clause-lowers : goal.entry-returns-then-is_refusal-2-clause-lowers
 entry-returns-then-is_refusal-2-clause-lowers t c =
@@ -108,7 +108,7 @@ entry-returns-then-is_refusal-2-clause-lowers t c =
     (stop_by _ _ _ _ _ _ (operand_of checked c.peek-f2.ensures.inner c.lower_materializing-r2.ensures.walked c.lower_materializing-r2.ensures.done (λ h. c.peek-f2.ensures.operand _ checked h refl)) place_at c.is_refusal-2.ensures c.if-is_refusal-2.true)
 
 pub entry-peek-f3-requires : goal.entry-peek-f3-requires
-entry-peek-f3-requires t c = (child_in _ _ _ c.requires.0 c.requires.1.1, omega arith)
+entry-peek-f3-requires t c = (child_in _ _ _ c.requires.0 c.requires.1.1, λ e. cc)
 
 pub entry-returns-then-is_refusal-3-clause-lowers : goal.entry-returns-then-is_refusal-3-clause-lowers
 entry-returns-then-is_refusal-3-clause-lowers t c =
@@ -129,7 +129,7 @@ entry-returns-clause-lowers t c =
 -- ---- `fuse`: the left side, the right side, and the jump of both; each side is tried and then walked
 
 pub fuse-peek-f1-requires : goal.fuse-peek-f1-requires
-fuse-peek-f1-requires t c = (child_in _ _ _ c.requires.0 (compared_below _ _ c.requires.1 c.node_word-left.ensures c.node_word-right.ensures c.args.self.now.checked).0, omega arith)
+fuse-peek-f1-requires t c = (child_in _ _ _ c.requires.0 (compared_below _ _ c.requires.1 c.node_word-left.ensures c.node_word-right.ensures c.args.self.now.checked).0, λ e. cc)
 
 pub fuse-lower_materializing-r1-requires : goal.fuse-lower_materializing-r1-requires
 fuse-lower_materializing-r1-requires t c = walk_in _ _ _ _ c.requires.0 (compared_below _ _ c.requires.1 c.node_word-left.ensures c.node_word-right.ensures c.args.self.now.checked).0 (omega (arith, c.decreases)) omega arith (λ h. omega (arith, (c.peek-f1.ensures.inner h).1.0))
@@ -141,7 +141,7 @@ fuse-returns-then-is_refusal-clause-lowers t c =
     (λ k e. stop_by _ _ _ _ _ _ (operand_of checked c.peek-f1.ensures.inner c.lower_materializing-r1.ensures.walked c.lower_materializing-r1.ensures.done (λ h. c.peek-f1.ensures.operand _ checked h refl)) place_at c.is_refusal.ensures c.if-is_refusal.true)
 
 pub fuse-peek-f2-requires : goal.fuse-peek-f2-requires
-fuse-peek-f2-requires t c = (child_in _ _ _ c.requires.0 (compared_below _ _ c.requires.1 c.node_word-left.ensures c.node_word-right.ensures c.args.self.now.checked).1, omega arith)
+fuse-peek-f2-requires t c = (child_in _ _ _ c.requires.0 (compared_below _ _ c.requires.1 c.node_word-left.ensures c.node_word-right.ensures c.args.self.now.checked).1, λ e. cc)
 
 pub fuse-lower_materializing-r2-requires : goal.fuse-lower_materializing-r2-requires
 fuse-lower_materializing-r2-requires t c = walk_in _ _ _ _ c.requires.0 (compared_below _ _ c.requires.1 c.node_word-left.ensures c.node_word-right.ensures c.args.self.now.checked).1 (omega (arith, c.decreases)) omega arith (λ h. omega (arith, (c.peek-f2.ensures.inner h).1.0))
@@ -258,7 +258,7 @@ lower_binary-returns-then-is_refusal-clause-lowers t c =
     (stop_by _ _ register_at _ _ _ (c.destination-t.ensures.step _ _ _ _) (operand_at _) c.is_refusal.ensures c.if-is_refusal.true)
 
 pub lower_binary-peek-f1-requires : goal.lower_binary-peek-f1-requires
-lower_binary-peek-f1-requires t c = (child_in _ _ _ c.requires.0.0 (operator_below c.args.self.now.checked _ c.requires.1 c.node_word-left.ensures c.node_word-right.ensures).0, omega arith)
+lower_binary-peek-f1-requires t c = (child_in _ _ _ c.requires.0.0 (operator_below c.args.self.now.checked _ c.requires.1 c.node_word-left.ensures c.node_word-right.ensures).0, λ e. cc)
 
 pub lower_binary-lower_materializing-r1-requires : goal.lower_binary-lower_materializing-r1-requires
 lower_binary-lower_materializing-r1-requires t c = walk_in _ _ _ _ c.requires.0.0 (operator_below c.args.self.now.checked _ c.requires.1 c.node_word-left.ensures c.node_word-right.ensures).0 (omega (arith, c.decreases)) omega arith (λ h. omega (arith, (c.peek-f1.ensures.inner h).1.0))
@@ -272,7 +272,7 @@ lower_binary-returns-then-is_refusal-2-clause-lowers t c =
     (stop_by tree _ (operand_at _) _ _ _ (operand_of checked c.peek-f1.ensures.inner c.lower_materializing-r1.ensures.walked c.lower_materializing-r1.ensures.done (λ h. c.peek-f1.ensures.operand _ checked h refl)) (operand_at _) c.is_refusal-2.ensures c.if-is_refusal-2.true))
 
 pub lower_binary-peek-f2-requires : goal.lower_binary-peek-f2-requires
-lower_binary-peek-f2-requires t c = (child_in _ _ _ c.requires.0.0 (operator_below c.args.self.now.checked _ c.requires.1 c.node_word-left.ensures c.node_word-right.ensures).1, omega arith)
+lower_binary-peek-f2-requires t c = (child_in _ _ _ c.requires.0.0 (operator_below c.args.self.now.checked _ c.requires.1 c.node_word-left.ensures c.node_word-right.ensures).1, λ e. cc)
 
 pub lower_binary-lower_materializing-r2-requires : goal.lower_binary-lower_materializing-r2-requires
 lower_binary-lower_materializing-r2-requires t c = walk_in _ _ _ _ c.requires.0.0 (operator_below c.args.self.now.checked _ c.requires.1 c.node_word-left.ensures c.node_word-right.ensures).1 (omega (arith, c.decreases)) omega arith (λ h. omega (arith, (c.peek-f2.ensures.inner h).1.0))
@@ -430,7 +430,7 @@ lower_call-returns-then-is_refusal-2-clause-lowers t c =
     (stop_by _ _ register_at _ _ _ (c.destination-t.ensures.step _ _ _ _) (operand_at _) c.is_refusal-2.ensures c.if-is_refusal-2.true))
 
 pub lower_call-peek-f1-requires : goal.lower_call-peek-f1-requires
-lower_call-peek-f1-requires t c = (child_in _ _ _ c.requires.0.0 (call_below c.args.self.now.checked _ c.requires.1 c.node_word-callee.ensures refl refl).callee, omega arith)
+lower_call-peek-f1-requires t c = (child_in _ _ _ c.requires.0.0 (call_below c.args.self.now.checked _ c.requires.1 c.node_word-callee.ensures refl refl).callee, λ e. cc)
 
 pub lower_call-lower_materializing-r1-requires : goal.lower_call-lower_materializing-r1-requires
 lower_call-lower_materializing-r1-requires t c = walk_in _ _ _ _ c.requires.0.0 (call_below c.args.self.now.checked _ c.requires.1 c.node_word-callee.ensures refl refl).callee (omega (arith, c.decreases)) omega arith (λ h. omega (arith, (c.peek-f1.ensures.inner h).1.0))
@@ -738,7 +738,7 @@ lower_unary-returns-then-is_refusal-clause-lowers t c =
     (stop_by _ _ register_at _ _ _ (c.destination-t.ensures.step _ _ _ _) (operand_at _) c.is_refusal.ensures c.if-is_refusal.true)
 
 pub lower_unary-peek-f1-requires : goal.lower_unary-peek-f1-requires
-lower_unary-peek-f1-requires t c = (child_in _ _ _ c.requires.0.0 (single_below _ _ c.only_operand-operand.ensures _ _ c.args.self.now.checked c.requires.1), omega arith)
+lower_unary-peek-f1-requires t c = (child_in _ _ _ c.requires.0.0 (single_below _ _ c.only_operand-operand.ensures _ _ c.args.self.now.checked c.requires.1), λ e. cc)
 
 pub lower_unary-lower_materializing-r1-requires : goal.lower_unary-lower_materializing-r1-requires
 lower_unary-lower_materializing-r1-requires t c = walk_in _ _ _ _ c.requires.0.0 (single_below _ _ c.only_operand-operand.ensures _ _ c.args.self.now.checked c.requires.1) (omega (arith, c.decreases)) omega arith (λ h. omega (arith, (c.peek-f1.ensures.inner h).1.0))
@@ -787,7 +787,7 @@ property-returns-then-is_refusal-clause-lowers t c =
     (stop_by _ _ register_at _ _ _ (c.destination-t.ensures.step _ _ _ _) (operand_at _) c.is_refusal.ensures c.if-is_refusal.true)
 
 pub property-peek-f1-requires : goal.property-peek-f1-requires
-property-peek-f1-requires t c = (child_in _ _ _ c.requires.0.0 (property_below c.args.self.now.checked _ c.requires.1 c.node_word-object.ensures c.node_word-property.ensures), omega arith)
+property-peek-f1-requires t c = (child_in _ _ _ c.requires.0.0 (property_below c.args.self.now.checked _ c.requires.1 c.node_word-object.ensures c.node_word-property.ensures), λ e. cc)
 
 pub property-lower_materializing-r1-requires : goal.property-lower_materializing-r1-requires
 property-lower_materializing-r1-requires t c = walk_in _ _ _ _ c.requires.0.0 (property_below c.args.self.now.checked _ c.requires.1 c.node_word-object.ensures c.node_word-property.ensures) (omega (arith, c.decreases)) omega arith (λ h. omega (arith, (c.peek-f1.ensures.inner h).1.0))

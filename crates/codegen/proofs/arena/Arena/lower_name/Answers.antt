@@ -8,45 +8,45 @@ use Rattle.codegen.proofs.Walk.{ended}
 use Rattle.codegen.proofs.Reading.{name_of, name_undeclared, name_own, name_moved, another_small}
 use Rattle.codegen.proofs.arena.Arena.lower_name.Goals as goal
 
-pub returns-then-register-clause-lowers : goal.returns-then-register-clause-lowers
-returns-then-register-clause-lowers c =
-    let found = rw c.node_word.ensures at c.find-register.ensures.found in
+pub returns-in_default-clause-lowers : goal.returns-in_default-clause-lowers
+returns-in_default-clause-lowers c =
+    let found = rw c.node_word.ensures at c.find.ensures.found in
     rw (c.refused.ensures.state, c.refused.ensures.answer)
     (λ list.
     let t = tree_of c.args.self.now.nodes.now list c.args.self.now.names.now in
     name_of t _ _ _ c.requires.1.0 found
-    (name_undeclared t _ _ _ (operand_at _) (omega (arith, c.ranges.node)) c.if-register.true))
+    (name_undeclared t _ _ _ (operand_at _) (omega (arith, c.ranges.node)) c.in_default.is))
 
 pub returns-then-dest-register-clause-lowers : goal.returns-then-dest-register-clause-lowers
 returns-then-dest-register-clause-lowers c =
-    let found = rw c.node_word.ensures at c.find-register.ensures.found in
+    let found = rw c.node_word.ensures at c.find.ensures.found in
     rw (c.answered.ensures.state, c.answered.ensures.answer)
     (λ list.
     let t = tree_of c.args.self.now.nodes.now list c.args.self.now.names.now in
     name_of t _ _ _ c.requires.1.0 found
-    (name_own t _ _ c.requires.1.1 c.find-register.ensures.local c.if-register.false _ c.if-dest-register.true))
+    (name_own t _ _ c.requires.1.1 c.find.ensures.local c.in-Some.is _ c.if-dest-register.true))
 
-pub returns-in_default-clause-lowers : goal.returns-in_default-clause-lowers
+pub returns-in_default-place-clause-lowers : goal.returns-in_default-place-clause-lowers
 unfolding words_of
-returns-in_default-clause-lowers c =
+returns-in_default-place-clause-lowers c =
     let left = rw (c.reg_of.ensures, c.reg_of-2.ensures) at c.emit_instruction-emitted.ensures.words in
-    let found = rw c.node_word.ensures at c.find-register.ensures.found in
-    rw (c.refused-in_default.ensures.state, c.refused-in_default.ensures.answer)
+    let found = rw c.node_word.ensures at c.find.ensures.found in
+    rw (c.refused-in_default-place.ensures.state, c.refused-in_default-place.ensures.answer)
     (λ list.
     let t = tree_of c.args.self.now.nodes.now list c.args.self.now.names.now in
     name_of t _ _ _ c.requires.1.0 found
-    (name_moved t _ _ c.requires.1.1 c.find-register.ensures.local c.if-register.false c.if-dest-register.false
-    (stop_emitted t _ _ _ _ refl left (operand_at _) c.in_default.is)))
+    (name_moved t _ _ c.requires.1.1 c.find.ensures.local c.in-Some.is c.if-dest-register.false
+    (stop_emitted t _ _ _ _ refl left (operand_at _) c.in_default-place.is)))
 
 pub returns-clause-lowers : goal.returns-clause-lowers
 unfolding words_of settled
 returns-clause-lowers c =
     let left = rw (c.reg_of.ensures, c.reg_of-2.ensures) at c.emit_instruction-emitted.ensures.words in
-    let found = rw c.node_word.ensures at c.find-register.ensures.found in
+    let found = rw c.node_word.ensures at c.find.ensures.found in
     rw (c.answered-2.ensures.state, c.answered-2.ensures.answer)
     (λ list.
     let t = tree_of c.args.self.now.nodes.now list c.args.self.now.names.now in
     name_of t _ _ _ c.requires.1.0 found
-    (name_moved t _ _ c.requires.1.1 c.find-register.ensures.local c.if-register.false c.if-dest-register.false
+    (name_moved t _ _ c.requires.1.1 c.find.ensures.local c.in-Some.is c.if-dest-register.false
     (then_emitted t _ _ _ _ refl left c.in-Ok.is
     (ended t _ _ _ (another_small _ _ c.requires.1.1 c.if-dest-register.false)))))

@@ -11,7 +11,7 @@ lower_flat-f-requires c = (
   c.requires.0,
   (
     ⊎_map (λ e. e) (λ l. omega (arith, l)) (taken_number _ c.take-taken.ensures c.number_at-register.ensures),
-    λ into. absurd (omega (arith, into, c.requires.1)),
+    λ into. absurd (c.requires.1 into),
   ),
 )
 
