@@ -27,7 +27,7 @@ use Rattle.lowering.specs.Steps.{free_temp, destination, emit, patch_to_next, ma
 use Rattle.lowering.specs.Lower.{refuse, lower_materializing, lower_arguments, lower_else, lower_node, lower_expression, lower_jump_if_false}
 use Rattle.patch.specs.Arguments.{mark_argument}
 use Rattle.steps.specs.declared.answer.AnswerAndState.{AnswerAndState}
-use Rattle.steps.specs.Answers.{any, register_at, dest_of, operand_at, settled, seen, is_refusal, is_inner, value_of, refusal_at, names_node, error_at, word_end, unit_at}
+use Rattle.steps.specs.Answers.{register_at, operand_at, settled, seen, is_refusal, is_inner, value_of, refusal_at, names_node, error_at, word_end, unit_at}
 use Rattle.steps.proofs.Words.{register_at_local}
 use Rattle.steps.proofs.Chains.{stop_by, seen_refusal, seen_word}
 use Rattle.codegen.specs.Kinds.{binary_kind, and_kind, or_kind, if_kind, call_kind}
@@ -41,10 +41,10 @@ abbrev tree_with : List ℕ → List ℕ → List ℕ → Tree
 tree_with nodes list names = record { nodes = nodes; list = words list; names = names }
 
 -- from code, pool, marks and s: `peek_into` left code₁, pool₁ and f, and `lower_materializing` code₂, pool₂, marks₂ and r
-module _ {nodes names code code₁ code₂ pool pool₁ pool₂ marks marks₁ marks₂ : List ℕ} {s : State} {f r : AnswerAndState} {n d : ℕ} (list : List ℕ)
-    (checked : Checked (tree_with nodes list names)) (few : d < any)
+module _ {nodes names code code₁ code₂ pool pool₁ pool₂ marks marks₁ marks₂ : List ℕ} {s : State} {f r : AnswerAndState} {n : ℕ} (list : List ℕ)
+    (checked : Checked (tree_with nodes list names)) (d : Register)
     (peeked : ((list : List ℕ) → Checked (tree_with nodes list names) → is_inner f.answer ≡ false →
-    settled (lower_materializing (lower_expression free_temp (tree_with nodes list names) n) (Some (register_at d)) (made code pool marks s))
+    settled (lower_materializing (lower_expression free_temp (tree_with nodes list names) n) (Some d) (made code pool marks s))
     ≡ seen (tree_with nodes list names) register_at (made code₁ pool₁ marks₁ f.state) f.answer)
     × ((is_inner f.answer ≡ true →
     ((f.state ≡ s) × ((code₁ ≡ code) × ((pool₁ ≡ pool) × (marks₁ ≡ marks)))) × ((value_of f.answer ≤ n) × (binary_kind ≤ node_word nodes (value_of f.answer) 0)))
@@ -52,20 +52,20 @@ module _ {nodes names code code₁ code₂ pool pool₁ pool₂ marks marks₁ m
     lower_materializing (lower_expression free_temp (tree_with nodes list names) n) (Some e) m
     ≡ lower_materializing (lower_expression free_temp (tree_with nodes list names) (value_of f.answer)) (Some e) m)))
     (walked : (is_inner f.answer ≡ true →
-    settled (lower_expression free_temp (tree_with nodes list names) (value_of f.answer) (dest_of d) (made code₁ pool₁ marks₁ s))
+    settled (lower_expression free_temp (tree_with nodes list names) (value_of f.answer) (Some d) (made code₁ pool₁ marks₁ s))
     ≡ seen (tree_with nodes list names) (operand_at (node (tree_with nodes list names) (value_of f.answer))) (made code₂ pool₂ marks₂ r.state) r.answer)
     × (is_inner f.answer ≡ false → (r ≡ f) × ((code₂ ≡ code₁) × ((pool₂ ≡ pool₁) × (marks₂ ≡ marks₁))))) where
-  branch : settled (lower_materializing (lower_expression free_temp (tree_with nodes list names) n) (Some (register_at d)) (made code pool marks s))
+  branch : settled (lower_materializing (lower_expression free_temp (tree_with nodes list names) n) (Some d) (made code pool marks s))
       ≡ seen (tree_with nodes list names) register_at (made code₂ pool₂ marks₂ r.state) r.answer
-  branch = into_of checked few peeked.1.0 (λ e m. peeked.1.1 list e m checked) walked.0 walked.1 (peeked.0 list checked)
+  branch = into_of checked d peeked.1.0 (λ e m. peeked.1.1 list e m checked) walked.0 walked.1 (peeked.0 list checked)
 
   module _ {B : Type 0} (k : Register → Walk B) {b : Bool} (told : b ≡ is_refusal r.answer) where
-    pub then_branch_lem : {q : Outcome B} → b ≡ false → settled (k (register_at d) (made code₂ pool₂ marks₂ r.state)) ≡ q →
-        settled (bind (lower_materializing (lower_expression free_temp (tree_with nodes list names) n) (Some (register_at d)) (made code pool marks s)) k) ≡ q
-    then_branch_lem left q = then_into (tree_with nodes list names) _ k n (register_at d) _ r.answer branch (sym told ∙ left) q
+    pub then_branch_lem : {q : Outcome B} → b ≡ false → settled (k d (made code₂ pool₂ marks₂ r.state)) ≡ q →
+        settled (bind (lower_materializing (lower_expression free_temp (tree_with nodes list names) n) (Some d) (made code pool marks s)) k) ≡ q
+    then_branch_lem left q = then_into (tree_with nodes list names) _ k n d _ r.answer branch (sym told ∙ left) q
 
     pub stop_branch : (gives : ℕ → B) → b ≡ true →
-        settled (bind (lower_materializing (lower_expression free_temp (tree_with nodes list names) n) (Some (register_at d)) (made code pool marks s)) k)
+        settled (bind (lower_materializing (lower_expression free_temp (tree_with nodes list names) n) (Some d) (made code pool marks s)) k)
         ≡ seen (tree_with nodes list names) gives (made code₂ pool₂ marks₂ r.state) r.answer
     stop_branch gives taken = stop_by (tree_with nodes list names) _ register_at _ r.answer k branch gives told taken
 

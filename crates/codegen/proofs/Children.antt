@@ -1,5 +1,5 @@
 -- A child that is tried and, if it is not flat, walked: what it takes to try it and to walk it, and what the two together give. Assumes nothing.
-use Rattle.std.specs.Prelude.{Some, None}
+use Rattle.std.specs.Prelude.{Option, Some, None}
 use Prim.Native.Nat.{ℕ, ◌+◌, ◌*◌, ◌≤◌, ◌<◌}
 use native.Mathlib.Omega.{arith}
 use mathlib.Core.Path.{◌≡◌, refl, ap}
@@ -14,7 +14,7 @@ use Rattle.lowering.specs.Walk.{Made, made}
 use Rattle.lowering.specs.Steps.{free_temp}
 use Rattle.lowering.specs.Lower.{lower_materializing, lower_expression}
 use Rattle.steps.specs.declared.answer.AnswerAndState.{AnswerAndState}
-use Rattle.steps.specs.Answers.{any, register_at, dest_of, operand_at, settled, seen, is_inner, value_of}
+use Rattle.steps.specs.Answers.{Aimed, register_at, operand_at, settled, seen, is_inner, value_of}
 use Rattle.codegen.specs.Ready.{InArena}
 use Rattle.codegen.specs.Kinds.{binary_kind}
 use Rattle.codegen.proofs.Walk.{child_operand, child_register, child_into}
@@ -26,8 +26,8 @@ pub child_in : (nodes : List ℕ) (i n : ℕ) → InArena nodes i → n < i → 
 child_in nodes i n inside below = omega arith
 
 -- to walk it, by a measure that falls: that of node i or more
-pub walk_in : (nodes : List ℕ) {i t : ℕ} (n dest a : ℕ) → InArena nodes i → n < i → 8 * i ≤ t → dest ≤ any → (is_inner a ≡ true → value_of a ≤ n) →
-    (cond (is_inner a) (8 * value_of a + 3) 0 < t) × (is_inner a ≡ true → InArena nodes (value_of a) × (dest ≤ any))
+pub walk_in : (nodes : List ℕ) {i t : ℕ} (n : ℕ) (dest : Option ℕ) (a : ℕ) → InArena nodes i → n < i → 8 * i ≤ t → Aimed dest → (is_inner a ≡ true → value_of a ≤ n) →
+    (cond (is_inner a) (8 * value_of a + 3) 0 < t) × (is_inner a ≡ true → InArena nodes (value_of a) × Aimed dest)
 walk_in nodes {i} {t} n dest a inside below at few same = (go (is_inner a) refl, λ h. (omega (arith, same h, inside), few))
   where
     go : (b : Bool) → is_inner a ≡ b → cond b (8 * value_of a + 3) 0 < t
@@ -46,7 +46,7 @@ untouched same = rw (same.1.0, same.1.1.0, same.1.1.1)
 module _ {t : Tree} (checked : Checked t) {n : ℕ} {k k₁ k₂ p p₁ p₂ q q₁ q₂ : List ℕ} {s : State} {f r : AnswerAndState}
     (inner : is_inner f.answer ≡ true → ((f.state ≡ s) × ((k₁ ≡ k) × ((p₁ ≡ p) × (q₁ ≡ q)))) × ((value_of f.answer ≡ n) × (binary_kind ≤ node_word t.nodes n 0)))
     (walked : is_inner f.answer ≡ true →
-    settled (lower_expression free_temp t (value_of f.answer) (dest_of any) (made k₁ p₁ q₁ s)) ≡ seen t (operand_at (node t (value_of f.answer))) (made k₂ p₂ q₂ r.state) r.answer)
+    settled (lower_expression free_temp t (value_of f.answer) None (made k₁ p₁ q₁ s)) ≡ seen t (operand_at (node t (value_of f.answer))) (made k₂ p₂ q₂ r.state) r.answer)
     (done : is_inner f.answer ≡ false → (r ≡ f) × ((k₂ ≡ k₁) × ((p₂ ≡ p₁) × (q₂ ≡ q₁)))) where
   -- its operand
   pub operand_of : (is_inner f.answer ≡ false → settled (lower_expression free_temp t n None (made k p q s)) ≡ seen t (operand_at (node t n)) (made k₁ p₁ q₁ f.state) f.answer) →
@@ -61,13 +61,13 @@ module _ {t : Tree} (checked : Checked t) {n : ℕ} {k k₁ k₂ p p₁ p₂ q q
       child_register checked n _ _ _ _ _ _ (λ h. kept (done h)) (λ h. untouched (inner h).0) tried (λ h. (inner h).1.0) (λ h. (inner h).1.1) walked
 
 -- its value in d
-pub into_of : {t : Tree} (checked : Checked t) {n d : ℕ} {k k₁ k₂ p p₁ p₂ q q₁ q₂ : List ℕ} {s : State} {f r : AnswerAndState} → d < any →
+pub into_of : {t : Tree} (checked : Checked t) {n : ℕ} (d : Register) {k k₁ k₂ p p₁ p₂ q q₁ q₂ : List ℕ} {s : State} {f r : AnswerAndState} →
     (is_inner f.answer ≡ true → ((f.state ≡ s) × ((k₁ ≡ k) × ((p₁ ≡ p) × (q₁ ≡ q)))) × ((value_of f.answer ≤ n) × (binary_kind ≤ node_word t.nodes (value_of f.answer) 0))) →
     ((e : Register) (m : Made) → is_inner f.answer ≡ true → lower_materializing (lower_expression free_temp t n) (Some e) m ≡ lower_materializing (lower_expression free_temp t (value_of f.answer)) (Some e) m) →
     (is_inner f.answer ≡ true →
-    settled (lower_expression free_temp t (value_of f.answer) (dest_of d) (made k₁ p₁ q₁ s)) ≡ seen t (operand_at (node t (value_of f.answer))) (made k₂ p₂ q₂ r.state) r.answer) →
+    settled (lower_expression free_temp t (value_of f.answer) (Some d) (made k₁ p₁ q₁ s)) ≡ seen t (operand_at (node t (value_of f.answer))) (made k₂ p₂ q₂ r.state) r.answer) →
     (is_inner f.answer ≡ false → (r ≡ f) × ((k₂ ≡ k₁) × ((p₂ ≡ p₁) × (q₂ ≡ q₁)))) →
-    (is_inner f.answer ≡ false → settled (lower_materializing (lower_expression free_temp t n) (Some (register_at d)) (made k p q s)) ≡ seen t register_at (made k₁ p₁ q₁ f.state) f.answer) →
-    settled (lower_materializing (lower_expression free_temp t n) (Some (register_at d)) (made k p q s)) ≡ seen t register_at (made k₂ p₂ q₂ r.state) r.answer
-into_of checked {n} {d} few inner same walked done tried =
-    child_into checked n _ _ _ _ _ _ (λ h. kept (done h)) (λ h. untouched (inner h).0) d few tried (λ h. same _ _ h) (λ h. (inner h).1.1) walked
+    (is_inner f.answer ≡ false → settled (lower_materializing (lower_expression free_temp t n) (Some d) (made k p q s)) ≡ seen t register_at (made k₁ p₁ q₁ f.state) f.answer) →
+    settled (lower_materializing (lower_expression free_temp t n) (Some d) (made k p q s)) ≡ seen t register_at (made k₂ p₂ q₂ r.state) r.answer
+into_of checked {n} d inner same walked done tried =
+    child_into checked n _ _ _ _ _ _ (λ h. kept (done h)) (λ h. untouched (inner h).0) d tried (λ h. same _ _ h) (λ h. (inner h).1.1) walked

@@ -26,9 +26,9 @@ use Rattle.lowering.specs.Literals.{is_literal, literal}
 use Rattle.lowering.specs.Lower.{Source, register, constant, source, lower_materializing, lower_node, lower_expression, binary_sources}
 use Rattle.lowering.proofs.Destinations.{GivesRegister, expression_register, literal_source, are_constants, free_source, binary_given_back}
 use Rattle.operators.specs.Opcodes.{first_of, second_of}
-use Rattle.steps.specs.Answers.{any, register_at, dest_of, literal_word, operand_at, source_at, settled, seen, is_refusal, value_of, RegisterOrRefusal}
+use Rattle.steps.specs.Answers.{any, register_at, literal_word, operand_at, source_at, settled, seen, is_refusal, value_of, RegisterOrRefusal}
 use Rattle.steps.proofs.Chains.{got, seen_given}
-use Rattle.steps.proofs.Words.{register_value, source_operand, dest_of_any}
+use Rattle.steps.proofs.Words.{register_value, source_operand}
 use Rattle.codegen.specs.Ready.{node_word_of}
 use Rattle.codegen.specs.Kinds.{binary_kind, property_kind, unary_kind, not_kind, only_operand, lower_literals}
 use Rattle.codegen.proofs.Walk.{below_of, expression_of, literal_materialized, no_register}
@@ -211,15 +211,15 @@ swapped_fields opcode p swap l r a b a' b' = rw (p, l, r, swap, a, b, a', b')
 
 -- the left is loaded, and then the rest; x, y and z are the words of the node
 pub one_loaded : (t : Tree) {left y : ℕ} {a : Operand} → left ≡ y → a ≡ literal (node t left) → (operator : BinaryOp) (z : ℕ) (d : Register) (m : Made) {r : Outcome Operand} →
-    settled (bind (load_constant a (dest_of any) m) (λ src1 m₁. bind (load_constant (literal (node t z)) None m₁) (λ src2. combined operator d src1 src2))) ≡ r →
+    settled (bind (load_constant a None m) (λ src1 m₁. bind (load_constant (literal (node t z)) None m₁) (λ src2. combined operator d src1 src2))) ≡ r →
     settled (lower_literals t operator y z d m) ≡ r
 unfolding lower_literals combined
-one_loaded t left_word is operator z d m q = rw (← left_word, ← is) (rw dest_of_any at q)
+one_loaded t left_word is operator z d m q = rw (← left_word, ← is) q
 
 -- both are
 pub two_loaded : (t : Tree) {operator op : BinaryOp} {left right y z : ℕ} {a b : Operand} → operator ≡ op → left ≡ y → right ≡ z → a ≡ literal (node t left) → b ≡ literal (node t right) →
     (d : Register) (m : Made) {r : Outcome Operand} →
-    settled (bind (load_constant a (dest_of any) m) (λ src1 m₁. bind (load_constant b (dest_of any) m₁) (λ src2. combined operator d src1 src2))) ≡ r →
+    settled (bind (load_constant a None m) (λ src1 m₁. bind (load_constant b None m₁) (λ src2. combined operator d src1 src2))) ≡ r →
     settled (lower_literals t op y z d m) ≡ r
 two_loaded t same left_word right_word is-left is_right d m q =
-    one_loaded t left_word is-left _ _ d m (rw (← same, ← right_word, ← is_right, dest_of_any) (rw dest_of_any at q))
+    one_loaded t left_word is-left _ _ d m (rw (← same, ← right_word, ← is_right) q)

@@ -5,11 +5,11 @@ use native.Mathlib.Omega.{arith}
 use native.Mathlib.Decide.{dec_lt, ℕ_discrete}
 use mathlib.Core.Path.{◌≡◌, refl, sym, ◌∙◌, ap}
 use mathlib.Core.Logic.{◌≢◌}
-use mathlib.Core.Bool.{Bool, true, false, cond, ◌||◌, false≢true}
+use mathlib.Core.Bool.{Bool, true, false, cond}
 use mathlib.Core.List.{List}
 use lib.Dec.{ltb, eqb}
 use lib.ListN.{length, get_or}
-use borrow.Author.Tests.{lt-ltb, le-ltb, leb-true, eq-eqb, ne_eqb, eqb-true}
+use borrow.Author.Tests.{lt-ltb, le-ltb, leb-true, eq-eqb, ne_eqb}
 use Rattle.diagnostics.specs.declared.Refusal.{Refusal}
 use Rattle.environment.specs.declared.Register.{Register}
 use Rattle.environment.specs.Environment.{lookup}
@@ -27,7 +27,7 @@ use Rattle.lowering.specs.Steps.{free_temp, emit}
 use Rattle.lowering.specs.Literals.{literal}
 use Rattle.lowering.specs.Lower.{same_register, moved, lower_name, lower_materializing, lower_node, expression_below, lower_expression}
 use Rattle.lowering.proofs.Destinations.{block_into, node_kind}
-use Rattle.steps.specs.Answers.{any, register_at, dest_of, operand_at, word_end, refusal_start, refusal_at, is_refusal, names_node, error_at, settled, seen}
+use Rattle.steps.specs.Answers.{any, Aimed, register_at, operand_at, word_end, refusal_start, refusal_at, is_refusal, names_node, error_at, settled, seen}
 use Rattle.steps.proofs.Chains.{seen_refusal}
 use Rattle.steps.proofs.Words.{register_at_local}
 use Rattle.codegen.specs.Ready.{InArena, node_word_of}
@@ -119,6 +119,10 @@ module _ (names : List ℕ) (n name : ℕ) {f : Result Register Refusal} (found 
 pub local_word : {o : Option ℕ} {w : ℕ} → LocalOr o → o ≡ Some w → (256 ≤ w) × (w < any)
 local_word l e = rw e at l
 
+-- a destination that is given has a register's word
+pub aimed_word : {o : Option ℕ} {d : ℕ} → Aimed o → o ≡ Some d → d < any
+aimed_word a e = rw e at a
+
 -- a destination is a local if its word is the local's
 pub same_word : (a b : ℕ) → a < any → 256 ≤ b → b < any → same_register (register_at a) (register_at b) ≡ eqb a b
 unfolding register_at same_register
@@ -131,14 +135,6 @@ same_word a b h low high = rw (le-ltb b 256 low) (go (dec_lt a 256))
     go : Dec (a < 256) → same_register (cond (ltb a 256) (Register.Temp a) (Register.Local (a % 256))) (Register.Local (b % 256)) ≡ eqb a b
     go (yes l) = rw (lt-ltb a 256 l, ne_eqb a b (omega arith))
     go (no l) = rw (le-ltb a 256 (omega (arith, l))) (bytes (omega (arith, l)) (ℕ_discrete a b))
-
--- a destination that is given, and is not the name's own
-pub another_small : (dest w : ℕ) → dest ≤ any → eqb dest any || eqb dest w ≡ false → dest < any
-another_small dest w h another = go (ℕ_discrete dest any)
-  where
-    go : Dec (dest ≡ any) → dest < any
-    go (yes e) = absurd (false≢true (sym (rw (eq-eqb dest any e) at another)))
-    go (no e) = omega (arith, e)
 
 module _ (t : Tree) (i : ℕ) (m : Made) where
   -- a name is lowered by what was found of it
@@ -156,29 +152,26 @@ module _ (t : Tree) (i : ℕ) (m : Made) where
   unfolding lower_name found_at settled error_at names_node
   name_undeclared dest gives h e = rw e (sym (seen_refusal t gives m Refusal.Undeclared i h))
 
-  module _ {dest w : ℕ} {o : Option ℕ} (dest_small : dest ≤ any) (local : LocalOr o) (declared : o ≡ Some w) where
-    -- any register will do, or its own was asked for
-    pub name_own : (n : Node) → eqb dest any || eqb dest w ≡ true → settled (lower_name t i (found_at o) (dest_of dest) m) ≡ seen t (operand_at n) m w
-    unfolding lower_name found_at moved dest_of settled
-    name_own n own = rw declared (go (ℕ_discrete dest any))
-      where
-        go : Dec (dest ≡ any) → settled (moved t (register_at w) (cond (eqb dest any) None (Some (register_at dest))) m) ≡ seen t (operand_at n) m w
-        go (yes e) = rw (eq-eqb dest any e) (ended t n m w (local_word local declared).1)
-        go (no e) =
-            let same : eqb dest w ≡ true = rw (ne_eqb dest any e) at own in
-            rw (ne_eqb dest any e, same_word dest w (omega (arith, e)) (local_word local declared).0 (local_word local declared).1, same, eqb-true dest w same)
-            (ended t n m w (local_word local declared).1)
+  module _ {w : ℕ} {o : Option ℕ} (local : LocalOr o) (declared : o ≡ Some w) where
+    -- any register will do
+    pub name_free : (n : Node) → settled (lower_name t i (found_at o) None m) ≡ seen t (operand_at n) m w
+    unfolding lower_name found_at moved settled
+    name_free n = rw declared (ended t n m w (local_word local declared).1)
 
-    -- another one was
-    pub name_moved : {r : Outcome Operand} → eqb dest any || eqb dest w ≡ false →
-        settled (bind (emit (Instruction.Move (reg_of (register_at dest)) (reg_of (register_at w))) m) (λ p. ret (Operand.Register (register_at dest)))) ≡ r →
-        settled (lower_name t i (found_at o) (dest_of dest) m) ≡ r
-    unfolding lower_name found_at moved dest_of
-    name_moved another q =
-        let small = another_small dest w dest_small another in
-        let e : dest ≢ any = omega arith in
-        let differs : eqb dest w ≡ false = rw (ne_eqb dest any e) at another in
-        rw (declared, ne_eqb dest any e, same_word dest w small (local_word local declared).0 (local_word local declared).1, differs) q
+    module _ {d : ℕ} (few : d < any) where
+      -- its own was asked for
+      pub name_own : (n : Node) → d ≡ w → settled (lower_name t i (found_at o) (Some (register_at d)) m) ≡ seen t (operand_at n) m w
+      unfolding lower_name found_at moved settled
+      name_own n own =
+          rw (declared, same_word d w few (local_word local declared).0 (local_word local declared).1, eq-eqb d w own, own)
+          (ended t n m w (local_word local declared).1)
+
+      -- another one was
+      pub name_moved : {r : Outcome Operand} → d ≢ w →
+          settled (bind (emit (Instruction.Move (reg_of (register_at d)) (reg_of (register_at w))) m) (λ p. ret (Operand.Register (register_at d)))) ≡ r →
+          settled (lower_name t i (found_at o) (Some (register_at d)) m) ≡ r
+      unfolding lower_name found_at moved
+      name_moved another q = rw (declared, same_word d w few (local_word local declared).0 (local_word local declared).1, ne_eqb d w another) q
 
 -- ---- an answer
 

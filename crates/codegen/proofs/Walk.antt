@@ -24,9 +24,9 @@ use Rattle.lowering.specs.Lower.{source, constant, materialized, lower_materiali
 use Rattle.lowering.proofs.Questions.Checked.{kind_word, checked_at, checked_below}
 use Rattle.lowering.proofs.Bound.Lowering.{expression_at}
 use Rattle.lowering.proofs.Destinations.{only_answer, GivesRegister, expression_into, expression_register, literal_source, literal_of, literal_loaded, free_source, node_kind}
-use Rattle.steps.specs.Answers.{any, register_at, dest_of, literal_word, operand_at, source_at, settled, seen, is_refusal, is_inner, value_of}
+use Rattle.steps.specs.Answers.{any, register_at, literal_word, operand_at, source_at, settled, seen, is_refusal, is_inner, value_of}
 use Rattle.steps.proofs.Chains.{got, then, stop, seen_given, seen_word}
-use Rattle.steps.proofs.Words.{freed_word, freed_literal, dest_of_any, dest_of_to}
+use Rattle.steps.proofs.Words.{freed_word, freed_literal}
 use Rattle.codegen.specs.Kinds.{name_kind, binary_kind, block_kind}
 use Rattle.codegen.specs.Flat.{Falling}
 
@@ -144,15 +144,15 @@ module _ {t : Tree} (checked : Checked t) (n : ℕ) (m m₀ m₁ m₂ : Made) (a
 
   -- its operand
   pub child_operand : (is_inner a ≡ false → settled (lower_expression free_temp t n None m) ≡ seen t (operand_at (node t n)) m₁ a) → (is_inner a ≡ true → value_of a ≡ n) →
-      (is_inner a ≡ true → settled (lower_expression free_temp t (value_of a) (dest_of any) m₀) ≡ seen t (operand_at (node t (value_of a))) m₂ b) →
+      (is_inner a ≡ true → settled (lower_expression free_temp t (value_of a) None m₀) ≡ seen t (operand_at (node t (value_of a))) m₂ b) →
       settled (lower_expression free_temp t n None m) ≡ seen t (operand_at (node t n)) m₂ b
   child_operand tried same walked =
-      by_trial (λ h. flat (operand_at (node t n)) _ h (tried h)) (λ h. rw (same h, back h, dest_of_any) at (walked h))
+      by_trial (λ h. flat (operand_at (node t n)) _ h (tried h)) (λ h. rw (same h, back h) at (walked h))
 
   -- its value in a register
   pub child_register : (is_inner a ≡ false → settled (lower_materializing (lower_expression free_temp t n) None m) ≡ seen t register_at m₁ a) → (is_inner a ≡ true → value_of a ≡ n) →
       (is_inner a ≡ true → binary_kind ≤ node_word t.nodes n 0) →
-      (is_inner a ≡ true → settled (lower_expression free_temp t (value_of a) (dest_of any) m₀) ≡ seen t (operand_at (node t (value_of a))) m₂ b) →
+      (is_inner a ≡ true → settled (lower_expression free_temp t (value_of a) None m₀) ≡ seen t (operand_at (node t (value_of a))) m₂ b) →
       settled (lower_materializing (lower_expression free_temp t n) None m) ≡ seen t register_at m₂ b
   unfolding lower_materializing
   child_register tried same kind walked =
@@ -160,22 +160,22 @@ module _ {t : Tree} (checked : Checked t) (n : ℕ) (m m₀ m₁ m₂ : Made) (a
       (λ h. flat register_at _ h (tried h))
       (λ h.
       in_register t (node t n) None (lower_expression free_temp t n None m) m₂ b (expression_register t n (no_literal checked n (omega (arith, kind h))) None m)
-      (rw (same h, back h, dest_of_any) at (walked h)))
+      (rw (same h, back h) at (walked h)))
 
   -- its value in d
-  pub child_into : (d : ℕ) → d < any → (is_inner a ≡ false → settled (lower_materializing (lower_expression free_temp t n) (Some (register_at d)) m) ≡ seen t register_at m₁ a) →
-      (is_inner a ≡ true → lower_materializing (lower_expression free_temp t n) (Some (register_at d)) m ≡ lower_materializing (lower_expression free_temp t (value_of a)) (Some (register_at d)) m) →
+  pub child_into : (d : Register) → (is_inner a ≡ false → settled (lower_materializing (lower_expression free_temp t n) (Some d) m) ≡ seen t register_at m₁ a) →
+      (is_inner a ≡ true → lower_materializing (lower_expression free_temp t n) (Some d) m ≡ lower_materializing (lower_expression free_temp t (value_of a)) (Some d) m) →
       (is_inner a ≡ true → binary_kind ≤ node_word t.nodes (value_of a) 0) →
-      (is_inner a ≡ true → settled (lower_expression free_temp t (value_of a) (dest_of d) m₀) ≡ seen t (operand_at (node t (value_of a))) m₂ b) →
-      settled (lower_materializing (lower_expression free_temp t n) (Some (register_at d)) m) ≡ seen t register_at m₂ b
+      (is_inner a ≡ true → settled (lower_expression free_temp t (value_of a) (Some d) m₀) ≡ seen t (operand_at (node t (value_of a))) m₂ b) →
+      settled (lower_materializing (lower_expression free_temp t n) (Some d) m) ≡ seen t register_at m₂ b
   unfolding lower_materializing
-  child_into d few tried same kind walked = by_trial (λ h. flat register_at _ h (tried h)) (λ h. ap settled (same h) ∙ into h)
+  child_into d tried same kind walked = by_trial (λ h. flat register_at _ h (tried h)) (λ h. ap settled (same h) ∙ into h)
     where
-      into : is_inner a ≡ true → settled (lower_materializing (lower_expression free_temp t (value_of a)) (Some (register_at d)) m) ≡ seen t register_at m₂ b
+      into : is_inner a ≡ true → settled (lower_materializing (lower_expression free_temp t (value_of a)) (Some d) m) ≡ seen t register_at m₂ b
       into h =
           let l = no_literal checked (value_of a) (omega (arith, kind h)) in
-          in_register t (node t (value_of a)) (Some (register_at d)) (lower_expression free_temp t (value_of a) (Some (register_at d)) m) m₂ b
-          (expression_register t (value_of a) l (Some (register_at d)) m) (rw (back h, dest_of_to d (omega (arith, few))) at (walked h))
+          in_register t (node t (value_of a)) (Some d) (lower_expression free_temp t (value_of a) (Some d) m) m₂ b
+          (expression_register t (value_of a) l (Some d) m) (rw (back h) at (walked h))
 
 -- ---- what follows a child, and the end of an arm
 

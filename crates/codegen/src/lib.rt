@@ -28,7 +28,7 @@ use questions::check;
 use result::{Result, refused_result, result_of};
 use runtime::function::emit_instruction;
 use runtime::opcode::Opcode;
-use steps::answer::{ANY, AnswerAndState, answered, is_refusal, refused, reg_of, value_of};
+use steps::answer::{AnswerAndState, answered, is_refusal, refused, reg_of, value_of};
 
 // The arguments patched, and then the answer.
 fn patch_and_answer(code: &mut [u8], marks: &mut [u8], state: State, place: u32) -> AnswerAndState
@@ -55,7 +55,7 @@ impl Arena<'_> {
         ensures kept { Kept buffers.old buffers.new }
     {
         let f = self.peek(buffers, state, root, Asked::Register);
-        let r = self.lower_materializing(buffers, state, f, ANY);
+        let r = self.lower_materializing(buffers, state, f, None);
         if is_refusal(r.answer) {
             return r;
         }

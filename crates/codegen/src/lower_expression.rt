@@ -1,7 +1,8 @@
 // The walk (kaori's codegen/lower_expression.rs, and `lower_materializing` and `lower_jump_if_false` of lower_ast.rs): a node is lowered by lowering the nodes
-// that it names, which are lower. One function an arm, in kaori's order. `dest` is the register that is to hold the value, or ANY. A child is tried first
-// (`peek`, `peek_into`), and walked if it is not flat. A state that is passed on is a copy of its own: the walk's own state then stays in machine registers.
-ghost use Rattle.std.specs.Prelude.{◌≡◌, ◌≢◌, ◌⊎◌, true, false, List, [], ◌∷◌, ℕ, ◌≤◌, Option};
+// that it names, which are lower. One function an arm, in kaori's order. `dest` is the register that is to hold the value; where there is none, any register
+// will do. A child is tried first (`peek`, `peek_into`), and walked if it is not flat. A state that is passed on is a copy of its own: the walk's own state
+// then stays in machine registers.
+ghost use Rattle.std.specs.Prelude.{◌≡◌, ◌≢◌, ◌⊎◌, true, false, List, [], ◌∷◌, ℕ, Option};
 ghost use Rattle.environment.specs.declared.Register.{Register};
 ghost use Rattle.words.specs.Words.{words};
 ghost use Rattle.syntax.specs.Ops.{binary_op, unary_op};
@@ -15,7 +16,7 @@ ghost use Rattle.lowering.specs.Walk.{Walk};
 ghost use Rattle.lowering.specs.Steps.{free_temp};
 ghost use Rattle.lowering.specs.Literals.{literal};
 ghost use Rattle.lowering.specs.Lower.{name_of, store_keyed, lower_arguments, lower_entry, test, jump_node, lower_expression, lower_jump_if_false};
-ghost use Rattle.steps.specs.Answers.{any, register_at, dest_of, operand_at, source_at, place_at, unit_at, settled, seen, is_inner, value_of, DestOrRefusal};
+ghost use Rattle.steps.specs.Answers.{Aimed, register_at, dest_of, operand_at, source_at, place_at, unit_at, settled, seen, is_inner, value_of, DestOrRefusal};
 ghost use Rattle.codegen.specs.Walks.{Kept, made_of, Untouched, Walks};
 ghost use Rattle.codegen.specs.Ready.{InArena, node_word_of, EntryBelow};
 ghost use Rattle.codegen.specs.Kinds.{name_kind, binary_kind, unary_kind, not_kind, and_kind, or_kind, if_kind, block_kind, call_kind, property_kind, map_kind, only_operand, key_operand, lower_literals, is_compared};
@@ -30,7 +31,7 @@ use runtime::function::{emit_instruction, store_constant};
 use runtime::opcode::Opcode;
 use runtime::operand::Operand;
 use steps::answer::{
-    ANY, AnswerAndState, LITERAL, answered, is_inner, is_refusal, local, refused, reg_of, value_of,
+    AnswerAndState, LITERAL, answered, is_inner, is_refusal, local, refused, reg_of, value_of,
 };
 use steps::sources::{field_of, first_of};
 use steps::step::{destination, load_constant, patch_to_next};
@@ -48,9 +49,9 @@ impl Arena<'_> {
         buffers: &mut Buffers,
         state: State,
         node: u32,
-        dest: u32,
+        dest: Option<u32>,
     ) -> AnswerAndState
-        requires { InArena self.now.nodes.now node × (dest ≤ any) }
+        requires { InArena self.now.nodes.now node × Aimed dest }
         ensures lowers { Walks (λ t. operand_at (node_at t.nodes node)) (λ t. lower_expression free_temp t node (dest_of dest)) self.now buffers.old buffers.new state result }
         ensures kept { Kept buffers.old buffers.new }
     {
@@ -89,9 +90,9 @@ impl Arena<'_> {
         buffers: &mut Buffers,
         state: State,
         peeked: AnswerAndState,
-        dest: u32,
+        dest: Option<u32>,
     ) -> AnswerAndState
-        requires { is_inner peeked.answer ≡ true → (InArena self.now.nodes.now (value_of peeked.answer) × (dest ≤ any)) }
+        requires { is_inner peeked.answer ≡ true → (InArena self.now.nodes.now (value_of peeked.answer) × Aimed dest) }
         ensures walked { is_inner peeked.answer ≡ true → Walks (λ t. operand_at (node_at t.nodes (value_of peeked.answer))) (λ t. lower_expression free_temp t (value_of peeked.answer) (dest_of dest)) self.now buffers.old buffers.new state result }
         ensures done { is_inner peeked.answer ≡ false → (result ≡ peeked) × Untouched buffers.old buffers.new }
         ensures kept { Kept buffers.old buffers.new }
@@ -111,9 +112,9 @@ impl Arena<'_> {
         buffers: &mut Buffers,
         state: State,
         node: u32,
-        dest: u32,
+        dest: Option<u32>,
     ) -> AnswerAndState
-        requires { InArena self.now.nodes.now node × ((node_word_of self.now.nodes.now node 0 ≡ name_kind) × (dest ≤ any)) }
+        requires { InArena self.now.nodes.now node × ((node_word_of self.now.nodes.now node 0 ≡ name_kind) × Aimed dest) }
         ensures lowers { (list : List ℕ) → settled (lower_expression free_temp (tree_of self.now.nodes.now list self.now.names.now) node (dest_of dest) (made_of buffers.old state))
             ≡ seen (tree_of self.now.nodes.now list self.now.names.now) (operand_at (node_at (words self.now.nodes.now) node)) (made_of buffers.new result.state) result.answer }
         ensures kept { Kept buffers.old buffers.new }
@@ -122,14 +123,17 @@ impl Arena<'_> {
         let Some(register) = self.find(self.node_word(node, 1)) else {
             return refused(s, Refusal::Undeclared, node);
         };
-        if (dest == ANY) | (dest == register) {
+        let Some(d) = dest else {
+            return answered(s, register);
+        };
+        if d == register {
             return answered(s, register);
         }
         let emitted = emit_instruction(
             buffers.code,
             s.instructions,
             Opcode::Move,
-            reg_of(dest),
+            reg_of(d),
             reg_of(register),
             0,
         );
@@ -137,7 +141,7 @@ impl Arena<'_> {
             return refused(s, Refusal::Code, 0);
         };
         s.instructions = emitted.count;
-        answered(s, dest)
+        answered(s, d)
     }
 
     // Binary: destination first, left, right, then constants pooled, one instruction. Gives back what the operands held.
@@ -147,9 +151,9 @@ impl Arena<'_> {
         buffers: &mut Buffers,
         state: State,
         node: u32,
-        dest: u32,
+        dest: Option<u32>,
     ) -> AnswerAndState
-        requires { (InArena self.now.nodes.now node × (dest ≤ any)) × (node_word_of self.now.nodes.now node 0 ≡ binary_kind) }
+        requires { (InArena self.now.nodes.now node × Aimed dest) × (node_word_of self.now.nodes.now node 0 ≡ binary_kind) }
         ensures lowers { Walks (λ t. operand_at (node_at t.nodes node)) (λ t. lower_expression free_temp t node (dest_of dest)) self.now buffers.old buffers.new state result }
         ensures kept { Kept buffers.old buffers.new }
     {
@@ -162,14 +166,14 @@ impl Arena<'_> {
         let d = value_of(t.answer);
         let s1 = t.state;
         let f1 = self.peek(buffers, s1, left, Asked::Operand);
-        let r1 = self.lower_materializing(buffers, s1, f1, ANY);
+        let r1 = self.lower_materializing(buffers, s1, f1, None);
         if is_refusal(r1.answer) {
             return r1;
         }
         let src1 = value_of(r1.answer);
         let s2 = r1.state;
         let f2 = self.peek(buffers, s2, right, Asked::Operand);
-        let r2 = self.lower_materializing(buffers, s2, f2, ANY);
+        let r2 = self.lower_materializing(buffers, s2, f2, None);
         if is_refusal(r2.answer) {
             return r2;
         }
@@ -212,7 +216,7 @@ impl Arena<'_> {
             buffers.constants,
             state,
             self.literal(left),
-            ANY,
+            None,
         );
         if is_refusal(r1.answer) {
             return r1;
@@ -224,7 +228,7 @@ impl Arena<'_> {
             buffers.constants,
             s1,
             self.literal(right),
-            ANY,
+            None,
         );
         if is_refusal(r2.answer) {
             return r2;
@@ -284,9 +288,9 @@ impl Arena<'_> {
         buffers: &mut Buffers,
         state: State,
         node: u32,
-        dest: u32,
+        dest: Option<u32>,
     ) -> AnswerAndState
-        requires { (InArena self.now.nodes.now node × (dest ≤ any)) × ((node_word_of self.now.nodes.now node 0 ≡ unary_kind) ⊎ (node_word_of self.now.nodes.now node 0 ≡ not_kind)) }
+        requires { (InArena self.now.nodes.now node × Aimed dest) × ((node_word_of self.now.nodes.now node 0 ≡ unary_kind) ⊎ (node_word_of self.now.nodes.now node 0 ≡ not_kind)) }
         ensures lowers { Walks (λ t. operand_at (node_at t.nodes node)) (λ t. lower_expression free_temp t node (dest_of dest)) self.now buffers.old buffers.new state result }
         ensures kept { Kept buffers.old buffers.new }
     {
@@ -298,7 +302,7 @@ impl Arena<'_> {
         let d = value_of(t.answer);
         let s1 = t.state;
         let f1 = self.peek(buffers, s1, operand, Asked::Register);
-        let r1 = self.lower_materializing(buffers, s1, f1, ANY);
+        let r1 = self.lower_materializing(buffers, s1, f1, None);
         if is_refusal(r1.answer) {
             return r1;
         }
@@ -343,9 +347,9 @@ impl Arena<'_> {
         buffers: &mut Buffers,
         state: State,
         node: u32,
-        dest: u32,
+        dest: Option<u32>,
     ) -> AnswerAndState
-        requires { (InArena self.now.nodes.now node × (dest ≤ any)) × ((node_word_of self.now.nodes.now node 0 ≡ and_kind) ⊎ (node_word_of self.now.nodes.now node 0 ≡ or_kind)) }
+        requires { (InArena self.now.nodes.now node × Aimed dest) × ((node_word_of self.now.nodes.now node 0 ≡ and_kind) ⊎ (node_word_of self.now.nodes.now node 0 ≡ or_kind)) }
         ensures lowers { Walks (λ t. operand_at (node_at t.nodes node)) (λ t. lower_expression free_temp t node (dest_of dest)) self.now buffers.old buffers.new state result }
         ensures kept { Kept buffers.old buffers.new }
     {
@@ -358,7 +362,7 @@ impl Arena<'_> {
         let d = value_of(t.answer);
         let s1 = t.state;
         let f1 = self.peek_into(buffers, s1, left, d);
-        let r1 = self.lower_materializing(buffers, s1, f1, d);
+        let r1 = self.lower_materializing(buffers, s1, f1, Some(d));
         if is_refusal(r1.answer) {
             return r1;
         }
@@ -370,7 +374,7 @@ impl Arena<'_> {
         };
         s.instructions = emitted.count;
         let f2 = self.peek_into(buffers, s, right, d);
-        let r2 = self.lower_materializing(buffers, s, f2, d);
+        let r2 = self.lower_materializing(buffers, s, f2, Some(d));
         if is_refusal(r2.answer) {
             return r2;
         }
@@ -386,9 +390,9 @@ impl Arena<'_> {
         buffers: &mut Buffers,
         state: State,
         node: u32,
-        dest: u32,
+        dest: Option<u32>,
     ) -> AnswerAndState
-        requires { (InArena self.now.nodes.now node × (dest ≤ any)) × (node_word_of self.now.nodes.now node 0 ≡ if_kind) }
+        requires { (InArena self.now.nodes.now node × Aimed dest) × (node_word_of self.now.nodes.now node 0 ≡ if_kind) }
         ensures lowers { Walks (λ t. operand_at (node_at t.nodes node)) (λ t. lower_expression free_temp t node (dest_of dest)) self.now buffers.old buffers.new state result }
         ensures kept { Kept buffers.old buffers.new }
     {
@@ -408,7 +412,7 @@ impl Arena<'_> {
         let d = value_of(t.answer);
         let s1 = t.state;
         let f1 = self.peek_into(buffers, s1, then_branch, d);
-        let r1 = self.lower_materializing(buffers, s1, f1, d);
+        let r1 = self.lower_materializing(buffers, s1, f1, Some(d));
         if is_refusal(r1.answer) {
             return r1;
         }
@@ -423,7 +427,7 @@ impl Arena<'_> {
             return refused(s, Refusal::Else, node);
         }
         let f2 = self.peek_into(buffers, s, else_branch, d);
-        let r2 = self.lower_materializing(buffers, s, f2, d);
+        let r2 = self.lower_materializing(buffers, s, f2, Some(d));
         if is_refusal(r2.answer) {
             return r2;
         }
@@ -439,9 +443,9 @@ impl Arena<'_> {
         buffers: &mut Buffers,
         state: State,
         node: u32,
-        dest: u32,
+        dest: Option<u32>,
     ) -> AnswerAndState
-        requires { (InArena self.now.nodes.now node × (dest ≤ any)) × (node_word_of self.now.nodes.now node 0 ≡ block_kind) }
+        requires { (InArena self.now.nodes.now node × Aimed dest) × (node_word_of self.now.nodes.now node 0 ≡ block_kind) }
         ensures lowers { Walks (λ t. operand_at (node_at t.nodes node)) (λ t. lower_expression free_temp t node (dest_of dest)) self.now buffers.old buffers.new state result }
         ensures kept { Kept buffers.old buffers.new }
     {
@@ -454,7 +458,7 @@ impl Arena<'_> {
         let s = t.state;
         if tail == ABSENT {
             let u = s;
-            let r = load_constant(buffers.code, buffers.constants, u, Operand::Nil, d);
+            let r = load_constant(buffers.code, buffers.constants, u, Operand::Nil, Some(d));
             if is_refusal(r.answer) {
                 return r;
             }
@@ -462,7 +466,7 @@ impl Arena<'_> {
             return answered(s1, d);
         }
         let f1 = self.peek_into(buffers, s, tail, d);
-        let r1 = self.lower_materializing(buffers, s, f1, d);
+        let r1 = self.lower_materializing(buffers, s, f1, Some(d));
         if is_refusal(r1.answer) {
             return r1;
         }
@@ -477,9 +481,9 @@ impl Arena<'_> {
         buffers: &mut Buffers,
         state: State,
         node: u32,
-        dest: u32,
+        dest: Option<u32>,
     ) -> AnswerAndState
-        requires { (InArena self.now.nodes.now node × (dest ≤ any)) × (node_word_of self.now.nodes.now node 0 ≡ call_kind) }
+        requires { (InArena self.now.nodes.now node × Aimed dest) × (node_word_of self.now.nodes.now node 0 ≡ call_kind) }
         ensures lowers { Walks (λ t. operand_at (node_at t.nodes node)) (λ t. lower_expression free_temp t node (dest_of dest)) self.now buffers.old buffers.new state result }
         ensures kept { Kept buffers.old buffers.new }
     {
@@ -497,7 +501,7 @@ impl Arena<'_> {
         let d = value_of(t.answer);
         let s1 = t.state;
         let f1 = self.peek(buffers, s1, callee, Asked::Register);
-        let r1 = self.lower_materializing(buffers, s1, f1, ANY);
+        let r1 = self.lower_materializing(buffers, s1, f1, None);
         if is_refusal(r1.answer) {
             return r1;
         }
@@ -535,7 +539,7 @@ impl Arena<'_> {
             let argument = word(self.list, first + (i as usize));
             let d = local(i);
             let f1 = self.peek_into(buffers, s, argument, d);
-            let r1 = self.lower_materializing(buffers, s, f1, d);
+            let r1 = self.lower_materializing(buffers, s, f1, Some(d));
             if is_refusal(r1.answer) {
                 return r1;
             }
@@ -560,9 +564,9 @@ impl Arena<'_> {
         buffers: &mut Buffers,
         state: State,
         node: u32,
-        dest: u32,
+        dest: Option<u32>,
     ) -> AnswerAndState
-        requires { (InArena self.now.nodes.now node × (dest ≤ any)) × (node_word_of self.now.nodes.now node 0 ≡ property_kind) }
+        requires { (InArena self.now.nodes.now node × Aimed dest) × (node_word_of self.now.nodes.now node 0 ≡ property_kind) }
         ensures lowers { Walks (λ t. operand_at (node_at t.nodes node)) (λ t. lower_expression free_temp t node (dest_of dest)) self.now buffers.old buffers.new state result }
         ensures kept { Kept buffers.old buffers.new }
     {
@@ -575,7 +579,7 @@ impl Arena<'_> {
         let d = value_of(t.answer);
         let s1 = t.state;
         let f1 = self.peek(buffers, s1, object, Asked::Register);
-        let r1 = self.lower_materializing(buffers, s1, f1, ANY);
+        let r1 = self.lower_materializing(buffers, s1, f1, None);
         if is_refusal(r1.answer) {
             return r1;
         }
@@ -611,9 +615,9 @@ impl Arena<'_> {
         buffers: &mut Buffers,
         state: State,
         node: u32,
-        dest: u32,
+        dest: Option<u32>,
     ) -> AnswerAndState
-        requires { (InArena self.now.nodes.now node × (dest ≤ any)) × (node_word_of self.now.nodes.now node 0 ≡ map_kind) }
+        requires { (InArena self.now.nodes.now node × Aimed dest) × (node_word_of self.now.nodes.now node 0 ≡ map_kind) }
         ensures lowers { Walks (λ t. operand_at (node_at t.nodes node)) (λ t. lower_expression free_temp t node (dest_of dest)) self.now buffers.old buffers.new state result }
         ensures kept { Kept buffers.old buffers.new }
     {
@@ -680,7 +684,7 @@ impl Arena<'_> {
     {
         if self.node_word(key, 0) <= kind::IDENTIFIER {
             let f1 = self.peek(buffers, state, value, Asked::Operand);
-            let r1 = self.lower_materializing(buffers, state, f1, ANY);
+            let r1 = self.lower_materializing(buffers, state, f1, None);
             if is_refusal(r1.answer) {
                 return r1;
             }
@@ -689,14 +693,14 @@ impl Arena<'_> {
             return self.set_property(buffers, s1, d, key, value, LITERAL, src);
         }
         let f2 = self.peek(buffers, state, key, Asked::Operand);
-        let r2 = self.lower_materializing(buffers, state, f2, ANY);
+        let r2 = self.lower_materializing(buffers, state, f2, None);
         if is_refusal(r2.answer) {
             return r2;
         }
         let src1 = value_of(r2.answer);
         let s2 = r2.state;
         let f3 = self.peek(buffers, s2, value, Asked::Operand);
-        let r3 = self.lower_materializing(buffers, s2, f3, ANY);
+        let r3 = self.lower_materializing(buffers, s2, f3, None);
         if is_refusal(r3.answer) {
             return r3;
         }
@@ -819,9 +823,9 @@ impl Arena<'_> {
     {
         let t = state;
         let r = if self.node_word(node, 0) < kind::IDENTIFIER {
-            load_constant(buffers.code, buffers.constants, t, self.literal(node), ANY)
+            load_constant(buffers.code, buffers.constants, t, self.literal(node), None)
         } else {
-            self.lower_expression(buffers, t, node, ANY)
+            self.lower_expression(buffers, t, node, None)
         };
         if is_refusal(r.answer) {
             return r;
@@ -860,14 +864,14 @@ impl Arena<'_> {
         let right = self.node_word(node, 3);
         let s0 = state;
         let f1 = self.peek(buffers, s0, left, Asked::Operand);
-        let r1 = self.lower_materializing(buffers, s0, f1, ANY);
+        let r1 = self.lower_materializing(buffers, s0, f1, None);
         if is_refusal(r1.answer) {
             return r1;
         }
         let src1 = value_of(r1.answer);
         let s1 = r1.state;
         let f2 = self.peek(buffers, s1, right, Asked::Operand);
-        let r2 = self.lower_materializing(buffers, s1, f2, ANY);
+        let r2 = self.lower_materializing(buffers, s1, f2, None);
         if is_refusal(r2.answer) {
             return r2;
         }

@@ -1,5 +1,5 @@
 -- The laws of columns: a column read and written byte by byte, and that what is written is read back. Assumes nothing.
-use Rattle.std.specs.Prelude.{Some, None}
+use Rattle.std.specs.Prelude.{Some}
 use Rattle.std.specs.List.{fold}
 use Rattle.std.proofs.lemmas.Bool.{and_parts}
 use Rattle.std.proofs.lemmas.List.Sums.{fold-append}
@@ -112,8 +112,8 @@ column_folded s {column} h e =
     rw e (ap₂ (λ (n : ℕ) (l : List ℕ). read_bytes n Column.Blank l) (sym (length-take-le column_bytes s h)) (sym (take-append-drop column_bytes s))
     ∙ read_steps Column.Blank (take column_bytes s) (drop column_bytes s))
 
-pub column_short : (s : List ℕ) (at : ℕ) → length s < at + column_bytes → column_number (read_column (drop at s)) ≡ None
-unfolding read_column column_number
+pub column_short : (s : List ℕ) (at : ℕ) → length s < at + column_bytes → read_column (drop at s) ≡ Column.Bad
+unfolding read_column
 column_short s at h = rw (read_short column_bytes Column.Blank (drop at s) (omega (arith, length-drop at s)))
 
 -- writing: the last of a run of stores may be the first

@@ -4,9 +4,9 @@ ghost use Rattle.std.specs.List.{fold};
 ghost use Rattle.std.proofs.lemmas.List.Edits.{sets};
 ghost use Rattle.listing.specs.Column.{first, more, step, read_column, column_number, padding, write_column};
 
-// What the bytes of a column say so far: nothing but spaces, a number, or no column.
+// What the bytes of a column say so far: nothing but spaces, a number, or no column. Three cases, so no Option.
 #[derive(Drop)]
-enum Column {
+pub enum Column {
     Blank,
     Number(u32),
     Bad,
@@ -15,7 +15,7 @@ enum Column {
 impl Column {
     // The number, if it is one.
     #[tactic(auto, unfolding(crate::specs::Column::column_number))]
-    fn number(self) -> Option<u32>
+    pub fn number(self) -> Option<u32>
         ensures { result ≡ column_number self }
     {
         match self {
@@ -83,13 +83,18 @@ fn said(bytes: &[u8]) -> Column
     bytes.iter().fold(Column::Blank, |c, b| step(c, *b))
 }
 
-// The number in the column at `at`; none where there is no such column, or past the end of the text.
+// The column at `at`; past the end of the text there is none.
 #[tactic(auto, using(crate::proofs::Columns::column_short, crate::proofs::Columns::column_folded, std::proofs::lemmas::Slice::between_to_end))]
-pub fn read_column(s: &[u8], at: usize) -> Option<u32>
-    ensures { result ≡ column_number (read_column (drop at s.now)) }
+pub fn read_column(s: &[u8], at: usize) -> Column
+    ensures { result ≡ read_column (drop at s.now) }
 {
-    let column = s.get(at..)?.first_chunk::<COLUMN_BYTES>()?;
-    said(column).number()
+    let Some(rest) = s.get(at..) else {
+        return Column::Bad;
+    };
+    let Some(column) = rest.first_chunk::<COLUMN_BYTES>() else {
+        return Column::Bad;
+    };
+    said(column)
 }
 
 // Sets the byte at i to b; past the end nothing changes. By index: of what `get_mut` lends, nothing says what the slice ends as.

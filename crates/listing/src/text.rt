@@ -98,7 +98,7 @@ fn read_line(s: &[u8], at: usize, width: u8, out: &mut [u8], place: u32) -> bool
     }
     let first = (width as usize) * (place as usize);
     for k in 0..width as usize {
-        let Some(x) = read_column(s, at + COLUMN_BYTES * k) else {
+        let Some(x) = read_column(s, at + COLUMN_BYTES * k).number() else {
             return false;
         };
         put_word(out, first + k, x);

@@ -77,7 +77,8 @@ fn names_node(number: u32) -> bool
         | (number == Refusal::Unmarked.number())
 }
 
-// The number of the refusal that a number stands for: 1 to 19 stand for themselves, a lower number for the first and a higher one for the last.
+// The number of the refusal that a number stands for: 1 to 19 stand for themselves, a lower number for the first and a higher one for the last. A number,
+// since the answer of the walk has one.
 #[tactic(auto, using(crate::proofs::Laws::number_clamped))]
 fn refusal_number(number: u32) -> u32
     ensures { result ≡ refusal_number (refusal_of number) }

@@ -1,7 +1,7 @@
 -- The laws of the words of the walk: what a register, a destination, an operand, a refusal and a node left to the walk are read as. Assumes nothing.
-use Rattle.std.specs.Prelude.{Some, None, Result, Ok, Err}
+use Rattle.std.specs.Prelude.{Result, Ok, Err}
 use mathlib.Core.Path.{◌≡◌, refl, sym, ap, ◌∙◌}
-use mathlib.Core.Logic.{◌≢◌, ◌⊎◌, inl, inr}
+use mathlib.Core.Logic.{◌⊎◌, inl, inr}
 use mathlib.Core.Bool.{true, false}
 use Prim.Native.Nat.{ℕ, ◌+◌, ◌/◌, ◌%◌, ◌<◌, ◌≤◌}
 use native.Mathlib.Omega.{arith}
@@ -20,7 +20,7 @@ use Rattle.runtime.specs.Operands.{reg_of}
 use Rattle.lowering.specs.Literals.{literal}
 use Rattle.lowering.specs.Lower.{source}
 use Rattle.lowering.proofs.Destinations.{literal_source}
-use Rattle.steps.specs.Answers.{register_at, none, number_at, any, dest_of, literal_word, operand_at, source_at, word_end, refusal_start, refusal_at, is_refusal, value_of, number_of_refusal, refusal_of, is_inner, RegisterOrRefusal}
+use Rattle.steps.specs.Answers.{register_at, none, number_at, any, literal_word, operand_at, source_at, word_end, refusal_start, refusal_at, is_refusal, value_of, number_of_refusal, refusal_of, is_inner, RegisterOrRefusal}
 
 -- a register
 pub register_at_temporary : (w : ℕ) → w < 256 → register_at w ≡ Register.Temp w
@@ -81,15 +81,6 @@ freed_word s w = go (dec_lt w 256)
 pub freed_literal : (s : RegisterSet) → given_back s literal_word ≡ s
 unfolding given_back
 freed_literal s = refl
-
--- a destination
-pub dest_of_any : dest_of any ≡ None
-unfolding dest_of
-dest_of_any = refl
-
-pub dest_of_to : (w : ℕ) → w ≢ any → dest_of w ≡ Some (register_at w)
-unfolding dest_of
-dest_of_to w h = rw (ne_eqb w any h)
 
 -- an operand: a literal is a constant
 pub source_operand : (n : Node) (w : ℕ) → source (operand_at n w) ≡ source_at (literal n) w

@@ -21,15 +21,22 @@ use Rattle.lowering.specs.Lower.{Source, register, constant}
 unfoldable pub register_at : ℕ → Register
 register_at w = cond (ltb w register_count) (Register.Temp w) (Register.Local (w % register_count))
 
--- no register, and any register
+-- the word where there is no register; the words of the registers are those below `any`
 abbrev pub none : ℕ
 none = 4294967295
 
 abbrev pub any : ℕ
 any = 512
 
-unfoldable pub dest_of : ℕ → Option Register
-dest_of w = cond (eqb w any) None (Some (register_at w))
+-- a destination: none is given, and any register will do; or the register of a word
+abbrev pub dest_of : Option ℕ → Option Register
+dest_of None = None
+dest_of (Some w) = Some (register_at w)
+
+-- the word of a destination that is given is a register's
+abbrev pub Aimed : Option ℕ → Type 0
+Aimed None = Unit
+Aimed (Some w) = w < any
 
 -- the number of a register that was taken, or `none`
 unfoldable pub number_at : Result ℕ Refusal → ℕ

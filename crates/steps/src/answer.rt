@@ -25,9 +25,6 @@ pub struct AnswerAndCounts {
     pub answer: u64,
 }
 
-// The word of a destination where any register will do.
-pub const ANY: u32 = 512;
-
 // The word of an operand that is in no register: the node is a literal, which is not pooled yet.
 pub const LITERAL: u32 = 1024;
 

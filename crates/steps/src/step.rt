@@ -1,13 +1,13 @@
 // The steps on the state: a destination, and a constant loaded. Each contract equates the outcome with that of the definition's step, whatever stands in
 // the buffers that it does not touch.
-ghost use Rattle.std.specs.Prelude.{◌≡◌, List, ℕ, ◌-◌, ◌≤◌};
+ghost use Rattle.std.specs.Prelude.{◌≡◌, List, ℕ, ◌-◌};
 ghost use Rattle.words.specs.Words.{words, tail};
 ghost use Rattle.lowering.specs.Tree.{Tree};
 ghost use Rattle.lowering.specs.Walk.{made};
 ghost use Rattle.lowering.specs.Steps.{destination, load_constant, put_offset};
-ghost use Rattle.steps.specs.Answers.{register_at, any, dest_of, settled, seen, RegisterOrRefusal};
+ghost use Rattle.steps.specs.Answers.{register_at, dest_of, settled, seen, Aimed, RegisterOrRefusal};
 
-use crate::answer::{ANY, AnswerAndState, answered, is_refusal, refused, reg_of, value_of};
+use crate::answer::{AnswerAndState, answered, is_refusal, refused, reg_of, value_of};
 use diagnostics::Refusal;
 use lowering::State;
 use patch::put_offset;
@@ -17,12 +17,12 @@ use runtime::operand::Operand;
 
 // The register asked for, else the smallest free one, which is taken.
 #[tactic(auto, using(crate::proofs::Words::refusal_start_lem))]
-pub fn destination(state: State, dest: u32) -> AnswerAndState
+pub fn destination(state: State, dest: Option<u32>) -> AnswerAndState
     ensures step { (t : Tree) (k p m : List ℕ) → settled (destination (dest_of dest) (made k p m state)) ≡ seen t register_at (made k p m result.state) result.answer }
-    ensures word { dest ≤ any → RegisterOrRefusal result.answer }
+    ensures word { Aimed dest → RegisterOrRefusal result.answer }
 {
-    if dest != ANY {
-        return answered(state, dest);
+    if let Some(d) = dest {
+        return answered(state, d);
     }
     let mut s = state;
     let taken = s.registers.take();
@@ -40,13 +40,13 @@ pub fn load_constant(
     constants: &mut [u8],
     state: State,
     constant: Operand,
-    dest: u32,
+    dest: Option<u32>,
 ) -> AnswerAndState
     ensures step { (t : Tree) (m : List ℕ) → settled (load_constant constant (dest_of dest) (made (words code.old) (words constants.old) m state))
         ≡ seen t register_at (made (words code.new) (words constants.new) m result.state) result.answer }
     ensures code { tail code.new ≡ tail code.old }
     ensures constants { tail constants.new ≡ tail constants.old }
-    ensures word { dest ≤ any → RegisterOrRefusal result.answer }
+    ensures word { Aimed dest → RegisterOrRefusal result.answer }
 {
     let r = destination(state, dest);
     if is_refusal(r.answer) {

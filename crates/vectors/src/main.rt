@@ -47,7 +47,7 @@ fn agrees(text: &[u8], answer: &[u8]) -> bool
 fn number(s: &[u8], at: usize) -> u32
     ensures { result ≡ number s.now at }
 {
-    read_column(s, at).unwrap_or(0)
+    read_column(s, at).number().unwrap_or(0)
 }
 
 // The end of the line at `at`: past its line feed, or the end of `s`.

@@ -2,26 +2,26 @@
 use Rattle.std.proofs.Common.{refl, sym, ◌∙◌, ap, inr, arith}
 use Rattle.lowering.specs.Steps.{destination}
 use Rattle.steps.specs.Answers.{register_at, settled}
-use Rattle.steps.proofs.Words.{taken_below, taken_number_at, no_number, dest_of_any, dest_of_to}
+use Rattle.steps.proofs.Words.{taken_below, taken_number_at, no_number}
 use Rattle.steps.proofs.Chains.{seen_word, none_allocated, some_allocated}
 use Rattle.steps.proofs.step.destination.Goals as goal
 
-pub returns-then-dest-ne-ANY-clause-step : goal.returns-then-dest-ne-ANY-clause-step
+pub returns-in-Some-clause-step : goal.returns-in-Some-clause-step
 unfolding destination settled
-returns-then-dest-ne-ANY-clause-step c t k p m =
-    rw (c.answered.ensures.state, c.answered.ensures.answer, dest_of_to _ c.if-dest-ne-ANY.true) (sym (seen_word t register_at _ _ (omega arith)))
+returns-in-Some-clause-step c t k p m =
+    rw (c.answered.ensures.state, c.answered.ensures.answer, c.in-Some.is) (sym (seen_word t register_at _ _ (omega arith)))
 
-pub returns-in_default-clause-step : goal.returns-in_default-clause-step
+pub returns-in_default-place-clause-step : goal.returns-in_default-place-clause-step
 unfolding destination
-returns-in_default-clause-step c t k p m =
-    rw (c.refused.ensures.state, c.refused.ensures.answer, c.if-dest-ne-ANY.false, dest_of_any)
-    (none_allocated _ c.take-taken.ensures (no_number c.in_default.is) t refl)
+returns-in_default-place-clause-step c t k p m =
+    rw (c.refused.ensures.state, c.refused.ensures.answer, c.in_default.is)
+    (none_allocated _ c.take-taken.ensures (no_number c.in_default-place.is) t refl)
 
 pub returns-clause-step : goal.returns-clause-step
 unfolding destination settled
 returns-clause-step c t k p m =
     let below = taken_below _ c.take-taken.ensures c.in-Ok.is in
-    rw (c.answered-2.ensures.state, c.answered-2.ensures.answer, c.if-dest-ne-ANY.false, dest_of_any)
+    rw (c.answered-2.ensures.state, c.answered-2.ensures.answer, c.in_default.is)
     (ap settled (some_allocated _ c.take-taken.ensures (taken_number_at _ c.take-taken.ensures c.in-Ok.is) (λ e. absurd (omega (arith, below, e)))) ∙ sym (seen_word t register_at _ _ (omega (arith, below))))
 
 pub returns-clause-word : goal.returns-clause-word

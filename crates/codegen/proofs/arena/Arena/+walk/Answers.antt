@@ -1,5 +1,5 @@
 -- The needs of the walk, arm by arm. Each returns what its clause of the definition gives, a step a line. Assumes nothing.
-use Rattle.std.proofs.Common.{rules, refl, ap, sym, ◌∙◌, inr, arith, None}
+use Rattle.std.proofs.Common.{rules, refl, ap, sym, ◌∙◌, inr, arith, None, Some}
 use Rattle.words.proofs.Records.{append_placed}
 use native.Mathlib.Nat.{sub-zero}
 use borrow.Author.Tests.{eq-eqb, ne_eqb}
@@ -11,7 +11,7 @@ use Rattle.lowering.specs.Lower.{lower_materializing, lower_node, lower_tail, te
 use Rattle.lowering.proofs.Questions.Checked.{kind_word, checked_at}
 use Rattle.lowering.proofs.Bound.Lowering.{jump_false_at}
 use Rattle.steps.specs.Answers.{register_at, dest_of, operand_at, place_at, unit_at, settled}
-use Rattle.steps.proofs.Words.{dest_of_any, dest_of_to, source_operand}
+use Rattle.steps.proofs.Words.{source_operand}
 use Rattle.steps.proofs.Chains.{then, then_by, stop_by, then_done, then_stored, stop_stored, then_emitted, stop_emitted, then_marked, stop_marked, last, seen_word}
 use Rattle.codegen.specs.Ready.{Lowers}
 use Rattle.codegen.specs.Kinds.{block_kind, map_kind}
@@ -35,14 +35,14 @@ arguments-peek_into-f1-requires t c =
 pub arguments-lower_materializing-r1-requires : goal.arguments-lower_materializing-r1-requires
 arguments-lower_materializing-r1-requires t c =
     let lower = (call_below c.args.self.now.checked _ c.requires.1 refl c.node_word-first.ensures c.node_word-count.ensures).argument _ c.loop-i-test.true in
-    walk_in _ _ _ _ c.requires.0 (rw c.word-argument.ensures lower) (omega (arith, c.decreases)) (omega (arith, c.local-d.ensures)) (λ h. (c.peek_into-f1.ensures.inner h).1.0)
+    walk_in _ _ (Some _) _ c.requires.0 (rw c.word-argument.ensures lower) (omega (arith, c.decreases)) (omega (arith, c.local-d.ensures)) (λ h. (c.peek_into-f1.ensures.inner h).1.0)
 
 pub arguments-returns-then-is_refusal-clause-lowers : goal.arguments-returns-then-is_refusal-clause-lowers
 arguments-returns-then-is_refusal-clause-lowers t c =
     let few = (call_below c.args.self.now.checked _ c.requires.1 refl c.node_word-first.ensures c.node_word-count.ensures).few in
     arguments_of _ _ _ c.node_word-first.ensures c.node_word-count.ensures
     (c.loop-i.invariant.0 ∙ then_argument _ _ _ _ _ _ c.loop-i-test.true (omega (arith, c.loop-i-test.true, few)) c.word-argument.ensures c.local-d.ensures
-    (stop_branch _ c.args.self.now.checked (omega (arith, c.local-d.ensures)) (c.peek_into-f1.ensures.done, (c.peek_into-f1.ensures.inner, c.peek_into-f1.ensures.same)) (c.lower_materializing-r1.ensures.walked, c.lower_materializing-r1.ensures.done) _ c.is_refusal.ensures unit_at c.if-is_refusal.true))
+    (stop_branch _ c.args.self.now.checked _ (c.peek_into-f1.ensures.done, (c.peek_into-f1.ensures.inner, c.peek_into-f1.ensures.same)) (c.lower_materializing-r1.ensures.walked, c.lower_materializing-r1.ensures.done) _ c.is_refusal.ensures unit_at c.if-is_refusal.true))
 
 pub arguments-returns-then-s-eq0-clause-lowers : goal.arguments-returns-then-s-eq0-clause-lowers
 arguments-returns-then-s-eq0-clause-lowers t c =
@@ -50,7 +50,7 @@ arguments-returns-then-s-eq0-clause-lowers t c =
     by_answer _ _ _ _ _ _ (c.refused.ensures.state, c.refused.ensures.answer)
     (arguments_of _ _ _ c.node_word-first.ensures c.node_word-count.ensures
     (c.loop-i.invariant.0 ∙ then_argument _ _ _ _ _ _ c.loop-i-test.true (omega (arith, c.loop-i-test.true, few)) c.word-argument.ensures c.local-d.ensures
-    (then_branch_lem _ c.args.self.now.checked (omega (arith, c.local-d.ensures)) (c.peek_into-f1.ensures.done, (c.peek_into-f1.ensures.inner, c.peek_into-f1.ensures.same)) (c.lower_materializing-r1.ensures.walked, c.lower_materializing-r1.ensures.done) _ c.is_refusal.ensures c.if-is_refusal.false
+    (then_branch_lem _ c.args.self.now.checked _ (c.peek_into-f1.ensures.done, (c.peek_into-f1.ensures.inner, c.peek_into-f1.ensures.same)) (c.lower_materializing-r1.ensures.walked, c.lower_materializing-r1.ensures.done) _ c.is_refusal.ensures c.if-is_refusal.false
     (stop_unmarked _ _ _ _ unit_at c.if-s-eq0.true (omega (arith, c.ranges.node))))))
 
 pub arguments-returns-in_default-clause-lowers : goal.arguments-returns-in_default-clause-lowers
@@ -59,7 +59,7 @@ arguments-returns-in_default-clause-lowers t c =
     by_answer _ _ _ _ _ _ (c.refused-in_default.ensures.state, c.refused-in_default.ensures.answer)
     (arguments_of _ _ _ c.node_word-first.ensures c.node_word-count.ensures
     (c.loop-i.invariant.0 ∙ then_argument _ _ _ _ _ _ c.loop-i-test.true (omega (arith, c.loop-i-test.true, few)) c.word-argument.ensures c.local-d.ensures
-    (then_branch_lem _ c.args.self.now.checked (omega (arith, c.local-d.ensures)) (c.peek_into-f1.ensures.done, (c.peek_into-f1.ensures.inner, c.peek_into-f1.ensures.same)) (c.lower_materializing-r1.ensures.walked, c.lower_materializing-r1.ensures.done) _ c.is_refusal.ensures c.if-is_refusal.false
+    (then_branch_lem _ c.args.self.now.checked _ (c.peek_into-f1.ensures.done, (c.peek_into-f1.ensures.inner, c.peek_into-f1.ensures.same)) (c.lower_materializing-r1.ensures.walked, c.lower_materializing-r1.ensures.done) _ c.is_refusal.ensures c.if-is_refusal.false
     (stop_marked _ _ _ _ _ _ _ c.if-s-eq0.false (marked _ _ _ c.if-s-eq0.false c.mark_argument-marked.ensures.words) unit_at c.in_default.is))))
 
 pub arguments-loop-i-preserved : goal.arguments-loop-i-preserved
@@ -67,7 +67,7 @@ arguments-loop-i-preserved t c =
     let few = (call_below c.args.self.now.checked _ c.requires.1 refl c.node_word-first.ensures c.node_word-count.ensures).few in
     let tree = tree_of c.args.self.now.nodes.now c.args.self.now.list.now c.args.self.now.names.now in (
       c.loop-i.invariant.0 ∙ then_argument _ _ _ _ _ _ c.loop-i-test.true (omega (arith, c.loop-i-test.true, few)) c.word-argument.ensures c.local-d.ensures
-          (then_branch_lem _ c.args.self.now.checked (omega (arith, c.local-d.ensures)) (c.peek_into-f1.ensures.done, (c.peek_into-f1.ensures.inner, c.peek_into-f1.ensures.same)) (c.lower_materializing-r1.ensures.walked, c.lower_materializing-r1.ensures.done) _ c.is_refusal.ensures c.if-is_refusal.false
+          (then_branch_lem _ c.args.self.now.checked _ (c.peek_into-f1.ensures.done, (c.peek_into-f1.ensures.inner, c.peek_into-f1.ensures.same)) (c.lower_materializing-r1.ensures.walked, c.lower_materializing-r1.ensures.done) _ c.is_refusal.ensures c.if-is_refusal.false
           (then_marked tree _ _ _ _ _ _ c.if-s-eq0.false (marked _ _ _ c.if-s-eq0.false c.mark_argument-marked.ensures.words) c.in-Ok.is refl)),
       search rules,
     )
@@ -132,7 +132,7 @@ pub fuse-peek-f1-requires : goal.fuse-peek-f1-requires
 fuse-peek-f1-requires t c = (child_in _ _ _ c.requires.0 (compared_below _ _ c.requires.1 c.node_word-left.ensures c.node_word-right.ensures c.args.self.now.checked).0, λ e. cc)
 
 pub fuse-lower_materializing-r1-requires : goal.fuse-lower_materializing-r1-requires
-fuse-lower_materializing-r1-requires t c = walk_in _ _ _ _ c.requires.0 (compared_below _ _ c.requires.1 c.node_word-left.ensures c.node_word-right.ensures c.args.self.now.checked).0 (omega (arith, c.decreases)) omega arith (λ h. omega (arith, (c.peek-f1.ensures.inner h).1.0))
+fuse-lower_materializing-r1-requires t c = walk_in _ _ None _ c.requires.0 (compared_below _ _ c.requires.1 c.node_word-left.ensures c.node_word-right.ensures c.args.self.now.checked).0 (omega (arith, c.decreases)) tt (λ h. omega (arith, (c.peek-f1.ensures.inner h).1.0))
 
 pub fuse-returns-then-is_refusal-clause-lowers : goal.fuse-returns-then-is_refusal-clause-lowers
 fuse-returns-then-is_refusal-clause-lowers t c =
@@ -144,7 +144,7 @@ pub fuse-peek-f2-requires : goal.fuse-peek-f2-requires
 fuse-peek-f2-requires t c = (child_in _ _ _ c.requires.0 (compared_below _ _ c.requires.1 c.node_word-left.ensures c.node_word-right.ensures c.args.self.now.checked).1, λ e. cc)
 
 pub fuse-lower_materializing-r2-requires : goal.fuse-lower_materializing-r2-requires
-fuse-lower_materializing-r2-requires t c = walk_in _ _ _ _ c.requires.0 (compared_below _ _ c.requires.1 c.node_word-left.ensures c.node_word-right.ensures c.args.self.now.checked).1 (omega (arith, c.decreases)) omega arith (λ h. omega (arith, (c.peek-f2.ensures.inner h).1.0))
+fuse-lower_materializing-r2-requires t c = walk_in _ _ None _ c.requires.0 (compared_below _ _ c.requires.1 c.node_word-left.ensures c.node_word-right.ensures c.args.self.now.checked).1 (omega (arith, c.decreases)) tt (λ h. omega (arith, (c.peek-f2.ensures.inner h).1.0))
 
 pub fuse-returns-then-is_refusal-2-clause-lowers : goal.fuse-returns-then-is_refusal-2-clause-lowers
 fuse-returns-then-is_refusal-2-clause-lowers t c =
@@ -187,29 +187,27 @@ logical-peek_into-f1-requires t c = (child_in _ _ _ c.requires.0.0 (logical_belo
 pub logical-lower_materializing-r1-requires : goal.logical-lower_materializing-r1-requires
 logical-lower_materializing-r1-requires t c =
     let few = register_word _ c.is_refusal.ensures c.if-is_refusal.false c.value_of-d.ensures (c.destination-t.ensures.word c.requires.0.1) in
-    walk_in _ _ _ _ c.requires.0.0 (logical_below c.args.self.now.checked _ c.node_word-left.ensures c.node_word-right.ensures c.requires.1).0 (omega (arith, c.decreases)) (omega (arith, few)) (λ h. (c.peek_into-f1.ensures.inner h).1.0)
+    walk_in _ _ (Some _) _ c.requires.0.0 (logical_below c.args.self.now.checked _ c.node_word-left.ensures c.node_word-right.ensures c.requires.1).0 (omega (arith, c.decreases)) few (λ h. (c.peek_into-f1.ensures.inner h).1.0)
 
 pub logical-returns-then-is_refusal-2-clause-lowers : goal.logical-returns-then-is_refusal-2-clause-lowers
 unfolding lower_logical
 logical-returns-then-is_refusal-2-clause-lowers t c =
     let tree = tree_of c.args.self.now.nodes.now c.args.self.now.list.now c.args.self.now.names.now in
     let checked = c.args.self.now.checked in
-    let few = register_word _ c.is_refusal.ensures c.if-is_refusal.false c.value_of-d.ensures (c.destination-t.ensures.word c.requires.0.1) in
     logical_of checked _ c.node_word-left.ensures c.node_word-right.ensures c.requires.1 _ _
     (then_by tree _ register_at _ _ _ (c.destination-t.ensures.step tree _ _ _) c.is_refusal.ensures c.if-is_refusal.false c.value_of-d.ensures
-    (stop_branch _ checked few (c.peek_into-f1.ensures.done, (c.peek_into-f1.ensures.inner, c.peek_into-f1.ensures.same)) (c.lower_materializing-r1.ensures.walked, c.lower_materializing-r1.ensures.done) _ c.is_refusal-2.ensures (operand_at _) c.if-is_refusal-2.true))
+    (stop_branch _ checked _ (c.peek_into-f1.ensures.done, (c.peek_into-f1.ensures.inner, c.peek_into-f1.ensures.same)) (c.lower_materializing-r1.ensures.walked, c.lower_materializing-r1.ensures.done) _ c.is_refusal-2.ensures (operand_at _) c.if-is_refusal-2.true))
 
 pub logical-returns-in_default-clause-lowers : goal.logical-returns-in_default-clause-lowers
 unfolding lower_logical
 logical-returns-in_default-clause-lowers t c =
     let tree = tree_of c.args.self.now.nodes.now c.args.self.now.list.now c.args.self.now.names.now in
     let checked = c.args.self.now.checked in
-    let few = register_word _ c.is_refusal.ensures c.if-is_refusal.false c.value_of-d.ensures (c.destination-t.ensures.word c.requires.0.1) in
     let told = jump_words _ _ (c.logical_jump-jump.ensures.and, c.logical_jump-jump.ensures.or) c.requires.1 c.reg_of.ensures in
     by_answer _ _ _ _ _ _ (c.refused.ensures.state, c.refused.ensures.answer)
     (logical_of checked _ c.node_word-left.ensures c.node_word-right.ensures c.requires.1 _ _
     (then_by tree _ register_at _ _ _ (c.destination-t.ensures.step tree _ _ _) c.is_refusal.ensures c.if-is_refusal.false c.value_of-d.ensures
-    (then_branch_lem _ checked few (c.peek_into-f1.ensures.done, (c.peek_into-f1.ensures.inner, c.peek_into-f1.ensures.same)) (c.lower_materializing-r1.ensures.walked, c.lower_materializing-r1.ensures.done) _ c.is_refusal-2.ensures c.if-is_refusal-2.false
+    (then_branch_lem _ checked _ (c.peek_into-f1.ensures.done, (c.peek_into-f1.ensures.inner, c.peek_into-f1.ensures.same)) (c.lower_materializing-r1.ensures.walked, c.lower_materializing-r1.ensures.done) _ c.is_refusal-2.ensures c.if-is_refusal-2.false
     (stop_emitted _ _ _ _ _ told c.emit_instruction-emitted.ensures.words (operand_at _) c.in_default.is))))
 
 pub logical-peek_into-f2-requires : goal.logical-peek_into-f2-requires
@@ -218,20 +216,19 @@ logical-peek_into-f2-requires t c = (child_in _ _ _ c.requires.0.0 (logical_belo
 pub logical-lower_materializing-r2-requires : goal.logical-lower_materializing-r2-requires
 logical-lower_materializing-r2-requires t c =
     let few = register_word _ c.is_refusal.ensures c.if-is_refusal.false c.value_of-d.ensures (c.destination-t.ensures.word c.requires.0.1) in
-    walk_in _ _ _ _ c.requires.0.0 (logical_below c.args.self.now.checked _ c.node_word-left.ensures c.node_word-right.ensures c.requires.1).1 (omega (arith, c.decreases)) (omega (arith, few)) (λ h. (c.peek_into-f2.ensures.inner h).1.0)
+    walk_in _ _ (Some _) _ c.requires.0.0 (logical_below c.args.self.now.checked _ c.node_word-left.ensures c.node_word-right.ensures c.requires.1).1 (omega (arith, c.decreases)) few (λ h. (c.peek_into-f2.ensures.inner h).1.0)
 
 pub logical-returns-then-is_refusal-3-clause-lowers : goal.logical-returns-then-is_refusal-3-clause-lowers
 unfolding lower_logical
 logical-returns-then-is_refusal-3-clause-lowers t c =
     let tree = tree_of c.args.self.now.nodes.now c.args.self.now.list.now c.args.self.now.names.now in
     let checked = c.args.self.now.checked in
-    let few = register_word _ c.is_refusal.ensures c.if-is_refusal.false c.value_of-d.ensures (c.destination-t.ensures.word c.requires.0.1) in
     let told = jump_words _ _ (c.logical_jump-jump.ensures.and, c.logical_jump-jump.ensures.or) c.requires.1 c.reg_of.ensures in
     logical_of checked _ c.node_word-left.ensures c.node_word-right.ensures c.requires.1 _ _
     (then_by tree _ register_at _ _ _ (c.destination-t.ensures.step tree _ _ _) c.is_refusal.ensures c.if-is_refusal.false c.value_of-d.ensures
-    (then_branch_lem _ checked few (c.peek_into-f1.ensures.done, (c.peek_into-f1.ensures.inner, c.peek_into-f1.ensures.same)) (c.lower_materializing-r1.ensures.walked, c.lower_materializing-r1.ensures.done) _ c.is_refusal-2.ensures c.if-is_refusal-2.false
+    (then_branch_lem _ checked _ (c.peek_into-f1.ensures.done, (c.peek_into-f1.ensures.inner, c.peek_into-f1.ensures.same)) (c.lower_materializing-r1.ensures.walked, c.lower_materializing-r1.ensures.done) _ c.is_refusal-2.ensures c.if-is_refusal-2.false
     (then_emitted tree _ _ _ _ told c.emit_instruction-emitted.ensures.words c.in-Ok.is
-    (stop_branch _ checked few (c.peek_into-f2.ensures.done, (c.peek_into-f2.ensures.inner, c.peek_into-f2.ensures.same)) (c.lower_materializing-r2.ensures.walked, c.lower_materializing-r2.ensures.done) _ c.is_refusal-3.ensures (operand_at _) c.if-is_refusal-3.true))))
+    (stop_branch _ checked _ (c.peek_into-f2.ensures.done, (c.peek_into-f2.ensures.inner, c.peek_into-f2.ensures.same)) (c.lower_materializing-r2.ensures.walked, c.lower_materializing-r2.ensures.done) _ c.is_refusal-3.ensures (operand_at _) c.if-is_refusal-3.true))))
 
 pub logical-returns-clause-lowers : goal.logical-returns-clause-lowers
 unfolding lower_logical settled
@@ -243,9 +240,9 @@ logical-returns-clause-lowers t c =
     by_answer _ _ _ _ _ _ (c.answered.ensures.state, c.answered.ensures.answer)
     (logical_of checked _ c.node_word-left.ensures c.node_word-right.ensures c.requires.1 _ _
     (then_by tree _ register_at _ _ _ (c.destination-t.ensures.step tree _ _ _) c.is_refusal.ensures c.if-is_refusal.false c.value_of-d.ensures
-    (then_branch_lem _ checked few (c.peek_into-f1.ensures.done, (c.peek_into-f1.ensures.inner, c.peek_into-f1.ensures.same)) (c.lower_materializing-r1.ensures.walked, c.lower_materializing-r1.ensures.done) _ c.is_refusal-2.ensures c.if-is_refusal-2.false
+    (then_branch_lem _ checked _ (c.peek_into-f1.ensures.done, (c.peek_into-f1.ensures.inner, c.peek_into-f1.ensures.same)) (c.lower_materializing-r1.ensures.walked, c.lower_materializing-r1.ensures.done) _ c.is_refusal-2.ensures c.if-is_refusal-2.false
     (then_emitted tree _ _ _ _ told c.emit_instruction-emitted.ensures.words c.in-Ok.is
-    (then_branch_lem _ checked few (c.peek_into-f2.ensures.done, (c.peek_into-f2.ensures.inner, c.peek_into-f2.ensures.same)) (c.lower_materializing-r2.ensures.walked, c.lower_materializing-r2.ensures.done) _ c.is_refusal-3.ensures c.if-is_refusal-3.false
+    (then_branch_lem _ checked _ (c.peek_into-f2.ensures.done, (c.peek_into-f2.ensures.inner, c.peek_into-f2.ensures.same)) (c.lower_materializing-r2.ensures.walked, c.lower_materializing-r2.ensures.done) _ c.is_refusal-3.ensures c.if-is_refusal-3.false
     (then_patched _ _ _ _ c.patch_to_next.ensures.words
     (ended _ _ _ _ few)))))))
 
@@ -261,7 +258,7 @@ pub lower_binary-peek-f1-requires : goal.lower_binary-peek-f1-requires
 lower_binary-peek-f1-requires t c = (child_in _ _ _ c.requires.0.0 (operator_below c.args.self.now.checked _ c.requires.1 c.node_word-left.ensures c.node_word-right.ensures).0, λ e. cc)
 
 pub lower_binary-lower_materializing-r1-requires : goal.lower_binary-lower_materializing-r1-requires
-lower_binary-lower_materializing-r1-requires t c = walk_in _ _ _ _ c.requires.0.0 (operator_below c.args.self.now.checked _ c.requires.1 c.node_word-left.ensures c.node_word-right.ensures).0 (omega (arith, c.decreases)) omega arith (λ h. omega (arith, (c.peek-f1.ensures.inner h).1.0))
+lower_binary-lower_materializing-r1-requires t c = walk_in _ _ None _ c.requires.0.0 (operator_below c.args.self.now.checked _ c.requires.1 c.node_word-left.ensures c.node_word-right.ensures).0 (omega (arith, c.decreases)) tt (λ h. omega (arith, (c.peek-f1.ensures.inner h).1.0))
 
 pub lower_binary-returns-then-is_refusal-2-clause-lowers : goal.lower_binary-returns-then-is_refusal-2-clause-lowers
 lower_binary-returns-then-is_refusal-2-clause-lowers t c =
@@ -275,7 +272,7 @@ pub lower_binary-peek-f2-requires : goal.lower_binary-peek-f2-requires
 lower_binary-peek-f2-requires t c = (child_in _ _ _ c.requires.0.0 (operator_below c.args.self.now.checked _ c.requires.1 c.node_word-left.ensures c.node_word-right.ensures).1, λ e. cc)
 
 pub lower_binary-lower_materializing-r2-requires : goal.lower_binary-lower_materializing-r2-requires
-lower_binary-lower_materializing-r2-requires t c = walk_in _ _ _ _ c.requires.0.0 (operator_below c.args.self.now.checked _ c.requires.1 c.node_word-left.ensures c.node_word-right.ensures).1 (omega (arith, c.decreases)) omega arith (λ h. omega (arith, (c.peek-f2.ensures.inner h).1.0))
+lower_binary-lower_materializing-r2-requires t c = walk_in _ _ None _ c.requires.0.0 (operator_below c.args.self.now.checked _ c.requires.1 c.node_word-left.ensures c.node_word-right.ensures).1 (omega (arith, c.decreases)) tt (λ h. omega (arith, (c.peek-f2.ensures.inner h).1.0))
 
 pub lower_binary-returns-then-is_refusal-3-clause-lowers : goal.lower_binary-returns-then-is_refusal-3-clause-lowers
 lower_binary-returns-then-is_refusal-3-clause-lowers t c =
@@ -349,12 +346,10 @@ unfolding lower_node lower_tail
 lower_block-returns-then-is_refusal-2-clause-lowers t c =
     let tree = tree_of c.args.self.now.nodes.now c.args.self.now.list.now c.args.self.now.names.now in
     let checked = c.args.self.now.checked in
-    let few = register_word _ c.is_refusal.ensures c.if-is_refusal.false c.value_of-d.ensures (c.destination-t.ensures.word c.requires.0.1) in
     let absent_tail = eq-eqb _ _ (sym c.node_word-tail.ensures ∙ c.if-tail.true) in
-    let given = dest_of_to c.value_of-d.result (omega (arith, few)) in
     expression_of checked _ block_kind c.requires.1 _ _
     (then_by tree _ register_at _ _ _ (c.destination-t.ensures.step tree _ _ _) c.is_refusal.ensures c.if-is_refusal.false c.value_of-d.ensures
-    (rw (absent_tail, ← given) (stop_by tree _ register_at _ _ _ (c.load_constant-r.ensures.step tree _) (operand_at _) c.is_refusal-then-tail.ensures c.if-is_refusal-2.true)))
+    (rw absent_tail (stop_by tree _ register_at _ _ _ (c.load_constant-r.ensures.step tree _) (operand_at _) c.is_refusal-then-tail.ensures c.if-is_refusal-2.true)))
 
 pub lower_block-returns-then-tail-clause-lowers : goal.lower_block-returns-then-tail-clause-lowers
 unfolding lower_node lower_tail settled
@@ -363,11 +358,10 @@ lower_block-returns-then-tail-clause-lowers t c =
     let checked = c.args.self.now.checked in
     let few = register_word _ c.is_refusal.ensures c.if-is_refusal.false c.value_of-d.ensures (c.destination-t.ensures.word c.requires.0.1) in
     let absent_tail = eq-eqb _ _ (sym c.node_word-tail.ensures ∙ c.if-tail.true) in
-    let given = dest_of_to c.value_of-d.result (omega (arith, few)) in
     by_answer _ _ _ _ _ _ (c.answered.ensures.state, c.answered.ensures.answer)
     (expression_of checked _ block_kind c.requires.1 _ _
     (then_by tree _ register_at _ _ _ (c.destination-t.ensures.step tree _ _ _) c.is_refusal.ensures c.if-is_refusal.false c.value_of-d.ensures
-    (rw (absent_tail, ← given) (then tree _ register_at _ _ _ (c.load_constant-r.ensures.step tree _) (sym c.is_refusal-then-tail.ensures ∙ c.if-is_refusal-2.false)
+    (rw absent_tail (then tree _ register_at _ _ _ (c.load_constant-r.ensures.step tree _) (sym c.is_refusal-then-tail.ensures ∙ c.if-is_refusal-2.false)
     (ended _ _ _ _ few)))))
 
 pub lower_block-peek_into-f1-requires : goal.lower_block-peek_into-f1-requires
@@ -379,18 +373,17 @@ pub lower_block-lower_materializing-r1-requires : goal.lower_block-lower_materia
 lower_block-lower_materializing-r1-requires t c =
     let few = register_word _ c.is_refusal.ensures c.if-is_refusal.false c.value_of-d.ensures (c.destination-t.ensures.word c.requires.0.1) in
     let below = rw (← c.node_word-tail.ensures) at (below_of c.args.self.now.checked _ block_kind c.requires.1) in
-    walk_in _ _ _ _ c.requires.0.0 (below c.if-tail.false) (omega (arith, c.decreases)) (omega (arith, few)) (λ h. (c.peek_into-f1.ensures.inner h).1.0)
+    walk_in _ _ (Some _) _ c.requires.0.0 (below c.if-tail.false) (omega (arith, c.decreases)) few (λ h. (c.peek_into-f1.ensures.inner h).1.0)
 
 pub lower_block-returns-then-is_refusal-3-clause-lowers : goal.lower_block-returns-then-is_refusal-3-clause-lowers
 unfolding lower_node lower_tail
 lower_block-returns-then-is_refusal-3-clause-lowers t c =
     let tree = tree_of c.args.self.now.nodes.now c.args.self.now.list.now c.args.self.now.names.now in
     let checked = c.args.self.now.checked in
-    let few = register_word _ c.is_refusal.ensures c.if-is_refusal.false c.value_of-d.ensures (c.destination-t.ensures.word c.requires.0.1) in
     let some_tail = ne_eqb _ _ (rw c.node_word-tail.ensures at c.if-tail.false) in
     let tried = c.peek_into-f1.ensures in
     let walked = c.lower_materializing-r1.ensures in
-    let tail = rw c.node_word-tail.ensures at (into_of checked few tried.inner (λ e m h. tried.same _ e m checked h) walked.walked walked.done (λ h. tried.done _ checked h)) in
+    let tail = rw c.node_word-tail.ensures at (into_of checked _ tried.inner (λ e m h. tried.same _ e m checked h) walked.walked walked.done (λ h. tried.done _ checked h)) in
     expression_of checked _ block_kind c.requires.1 _ _
     (then_by tree _ register_at _ _ _ (c.destination-t.ensures.step tree _ _ _) c.is_refusal.ensures c.if-is_refusal.false c.value_of-d.ensures
     (rw some_tail (stop_by tree _ register_at _ _ _ tail (operand_at _) c.is_refusal-2.ensures c.if-is_refusal-3.true)))
@@ -404,7 +397,7 @@ lower_block-returns-clause-lowers t c =
     let some_tail = ne_eqb _ _ (rw c.node_word-tail.ensures at c.if-tail.false) in
     let tried = c.peek_into-f1.ensures in
     let walked = c.lower_materializing-r1.ensures in
-    let tail = rw c.node_word-tail.ensures at (into_of checked few tried.inner (λ e m h. tried.same _ e m checked h) walked.walked walked.done (λ h. tried.done _ checked h)) in
+    let tail = rw c.node_word-tail.ensures at (into_of checked _ tried.inner (λ e m h. tried.same _ e m checked h) walked.walked walked.done (λ h. tried.done _ checked h)) in
     by_answer _ _ _ _ _ _ (c.answered-2.ensures.state, c.answered-2.ensures.answer)
     (expression_of checked _ block_kind c.requires.1 _ _
     (then_by tree _ register_at _ _ _ (c.destination-t.ensures.step tree _ _ _) c.is_refusal.ensures c.if-is_refusal.false c.value_of-d.ensures
@@ -433,7 +426,7 @@ pub lower_call-peek-f1-requires : goal.lower_call-peek-f1-requires
 lower_call-peek-f1-requires t c = (child_in _ _ _ c.requires.0.0 (call_below c.args.self.now.checked _ c.requires.1 c.node_word-callee.ensures refl refl).callee, λ e. cc)
 
 pub lower_call-lower_materializing-r1-requires : goal.lower_call-lower_materializing-r1-requires
-lower_call-lower_materializing-r1-requires t c = walk_in _ _ _ _ c.requires.0.0 (call_below c.args.self.now.checked _ c.requires.1 c.node_word-callee.ensures refl refl).callee (omega (arith, c.decreases)) omega arith (λ h. omega (arith, (c.peek-f1.ensures.inner h).1.0))
+lower_call-lower_materializing-r1-requires t c = walk_in _ _ None _ c.requires.0.0 (call_below c.args.self.now.checked _ c.requires.1 c.node_word-callee.ensures refl refl).callee (omega (arith, c.decreases)) tt (λ h. omega (arith, (c.peek-f1.ensures.inner h).1.0))
 
 pub lower_call-returns-then-is_refusal-3-clause-lowers : goal.lower_call-returns-then-is_refusal-3-clause-lowers
 unfolding lower_node
@@ -516,30 +509,28 @@ lower_if-peek_into-f1-requires t c = (child_in _ _ _ c.requires.0.0 (if_below c.
 pub lower_if-lower_materializing-r1-requires : goal.lower_if-lower_materializing-r1-requires
 lower_if-lower_materializing-r1-requires t c =
     let few = register_word _ c.is_refusal-2.ensures c.if-is_refusal-2.false c.value_of-d.ensures (c.destination-t.ensures.word c.requires.0.1) in
-    walk_in _ _ _ _ c.requires.0.0 (if_below c.args.self.now.checked _ c.requires.1 c.node_word-condition.ensures c.node_word-then_branch.ensures c.node_word-else_branch.ensures).then (omega (arith, c.decreases)) (omega (arith, few)) (λ h. (c.peek_into-f1.ensures.inner h).1.0)
+    walk_in _ _ (Some _) _ c.requires.0.0 (if_below c.args.self.now.checked _ c.requires.1 c.node_word-condition.ensures c.node_word-then_branch.ensures c.node_word-else_branch.ensures).then (omega (arith, c.decreases)) few (λ h. (c.peek_into-f1.ensures.inner h).1.0)
 
 pub lower_if-returns-then-is_refusal-3-clause-lowers : goal.lower_if-returns-then-is_refusal-3-clause-lowers
 unfolding lower_node
 lower_if-returns-then-is_refusal-3-clause-lowers t c =
     let tree = tree_of c.args.self.now.nodes.now c.args.self.now.list.now c.args.self.now.names.now in
     let checked = c.args.self.now.checked in
-    let few = register_word _ c.is_refusal-2.ensures c.if-is_refusal-2.false c.value_of-d.ensures (c.destination-t.ensures.word c.requires.0.1) in
     if_of checked _ c.requires.1 c.node_word-condition.ensures c.node_word-then_branch.ensures c.node_word-else_branch.ensures _ _
     (then_by tree _ place_at _ _ _ c.lower_jump_if_false-r.ensures.lowers c.is_refusal.ensures c.if-is_refusal.false c.value_of-jump_if_false.ensures
     (then_by tree _ register_at _ _ _ (c.destination-t.ensures.step tree _ _ _) c.is_refusal-2.ensures c.if-is_refusal-2.false c.value_of-d.ensures
-    (stop_branch _ checked few (c.peek_into-f1.ensures.done, (c.peek_into-f1.ensures.inner, c.peek_into-f1.ensures.same)) (c.lower_materializing-r1.ensures.walked, c.lower_materializing-r1.ensures.done) _ c.is_refusal-3.ensures (operand_at _) c.if-is_refusal-3.true)))
+    (stop_branch _ checked _ (c.peek_into-f1.ensures.done, (c.peek_into-f1.ensures.inner, c.peek_into-f1.ensures.same)) (c.lower_materializing-r1.ensures.walked, c.lower_materializing-r1.ensures.done) _ c.is_refusal-3.ensures (operand_at _) c.if-is_refusal-3.true)))
 
 pub lower_if-returns-in_default-clause-lowers : goal.lower_if-returns-in_default-clause-lowers
 unfolding lower_node words_of
 lower_if-returns-in_default-clause-lowers t c =
     let tree = tree_of c.args.self.now.nodes.now c.args.self.now.list.now c.args.self.now.names.now in
     let checked = c.args.self.now.checked in
-    let few = register_word _ c.is_refusal-2.ensures c.if-is_refusal-2.false c.value_of-d.ensures (c.destination-t.ensures.word c.requires.0.1) in
     by_answer _ _ _ _ _ _ (c.refused.ensures.state, c.refused.ensures.answer)
     (if_of checked _ c.requires.1 c.node_word-condition.ensures c.node_word-then_branch.ensures c.node_word-else_branch.ensures _ _
     (then_by tree _ place_at _ _ _ c.lower_jump_if_false-r.ensures.lowers c.is_refusal.ensures c.if-is_refusal.false c.value_of-jump_if_false.ensures
     (then_by tree _ register_at _ _ _ (c.destination-t.ensures.step tree _ _ _) c.is_refusal-2.ensures c.if-is_refusal-2.false c.value_of-d.ensures
-    (then_branch_lem _ checked few (c.peek_into-f1.ensures.done, (c.peek_into-f1.ensures.inner, c.peek_into-f1.ensures.same)) (c.lower_materializing-r1.ensures.walked, c.lower_materializing-r1.ensures.done) _ c.is_refusal-3.ensures c.if-is_refusal-3.false
+    (then_branch_lem _ checked _ (c.peek_into-f1.ensures.done, (c.peek_into-f1.ensures.inner, c.peek_into-f1.ensures.same)) (c.lower_materializing-r1.ensures.walked, c.lower_materializing-r1.ensures.done) _ c.is_refusal-3.ensures c.if-is_refusal-3.false
     (stop_emitted _ _ _ _ _ refl c.emit_instruction-emitted.ensures.words (operand_at _) c.in_default.is)))))
 
 pub lower_if-returns-then-else_branch-clause-lowers : goal.lower_if-returns-then-else_branch-clause-lowers
@@ -547,12 +538,11 @@ unfolding lower_node words_of
 lower_if-returns-then-else_branch-clause-lowers t c =
     let tree = tree_of c.args.self.now.nodes.now c.args.self.now.list.now c.args.self.now.names.now in
     let checked = c.args.self.now.checked in
-    let few = register_word _ c.is_refusal-2.ensures c.if-is_refusal-2.false c.value_of-d.ensures (c.destination-t.ensures.word c.requires.0.1) in
     by_answer _ _ _ _ _ _ (c.refused-then-else_branch.ensures.state, c.refused-then-else_branch.ensures.answer)
     (if_of checked _ c.requires.1 c.node_word-condition.ensures c.node_word-then_branch.ensures c.node_word-else_branch.ensures _ _
     (then_by tree _ place_at _ _ _ c.lower_jump_if_false-r.ensures.lowers c.is_refusal.ensures c.if-is_refusal.false c.value_of-jump_if_false.ensures
     (then_by tree _ register_at _ _ _ (c.destination-t.ensures.step tree _ _ _) c.is_refusal-2.ensures c.if-is_refusal-2.false c.value_of-d.ensures
-    (then_branch_lem _ checked few (c.peek_into-f1.ensures.done, (c.peek_into-f1.ensures.inner, c.peek_into-f1.ensures.same)) (c.lower_materializing-r1.ensures.walked, c.lower_materializing-r1.ensures.done) _ c.is_refusal-3.ensures c.if-is_refusal-3.false
+    (then_branch_lem _ checked _ (c.peek_into-f1.ensures.done, (c.peek_into-f1.ensures.inner, c.peek_into-f1.ensures.same)) (c.lower_materializing-r1.ensures.walked, c.lower_materializing-r1.ensures.done) _ c.is_refusal-3.ensures c.if-is_refusal-3.false
     (then_emitted tree _ _ _ _ refl c.emit_instruction-emitted.ensures.words c.in-Ok.is
     (then_patched _ _ _ _ c.patch_to_next.ensures.words
     (stop_else _ _ _ _ _ _ (operand_at _) c.if-else_branch.true (omega (arith, c.ranges.node)))))))))
@@ -563,22 +553,21 @@ lower_if-peek_into-f2-requires t c = (child_in _ _ _ c.requires.0.0 ((if_below c
 pub lower_if-lower_materializing-r2-requires : goal.lower_if-lower_materializing-r2-requires
 lower_if-lower_materializing-r2-requires t c =
     let few = register_word _ c.is_refusal-2.ensures c.if-is_refusal-2.false c.value_of-d.ensures (c.destination-t.ensures.word c.requires.0.1) in
-    walk_in _ _ _ _ c.requires.0.0 ((if_below c.args.self.now.checked _ c.requires.1 c.node_word-condition.ensures c.node_word-then_branch.ensures c.node_word-else_branch.ensures).else c.if-else_branch.false) (omega (arith, c.decreases)) (omega (arith, few)) (λ h. (c.peek_into-f2.ensures.inner h).1.0)
+    walk_in _ _ (Some _) _ c.requires.0.0 ((if_below c.args.self.now.checked _ c.requires.1 c.node_word-condition.ensures c.node_word-then_branch.ensures c.node_word-else_branch.ensures).else c.if-else_branch.false) (omega (arith, c.decreases)) few (λ h. (c.peek_into-f2.ensures.inner h).1.0)
 
 pub lower_if-returns-then-is_refusal-4-clause-lowers : goal.lower_if-returns-then-is_refusal-4-clause-lowers
 unfolding lower_node words_of
 lower_if-returns-then-is_refusal-4-clause-lowers t c =
     let tree = tree_of c.args.self.now.nodes.now c.args.self.now.list.now c.args.self.now.names.now in
     let checked = c.args.self.now.checked in
-    let few = register_word _ c.is_refusal-2.ensures c.if-is_refusal-2.false c.value_of-d.ensures (c.destination-t.ensures.word c.requires.0.1) in
     if_of checked _ c.requires.1 c.node_word-condition.ensures c.node_word-then_branch.ensures c.node_word-else_branch.ensures _ _
     (then_by tree _ place_at _ _ _ c.lower_jump_if_false-r.ensures.lowers c.is_refusal.ensures c.if-is_refusal.false c.value_of-jump_if_false.ensures
     (then_by tree _ register_at _ _ _ (c.destination-t.ensures.step tree _ _ _) c.is_refusal-2.ensures c.if-is_refusal-2.false c.value_of-d.ensures
-    (then_branch_lem _ checked few (c.peek_into-f1.ensures.done, (c.peek_into-f1.ensures.inner, c.peek_into-f1.ensures.same)) (c.lower_materializing-r1.ensures.walked, c.lower_materializing-r1.ensures.done) _ c.is_refusal-3.ensures c.if-is_refusal-3.false
+    (then_branch_lem _ checked _ (c.peek_into-f1.ensures.done, (c.peek_into-f1.ensures.inner, c.peek_into-f1.ensures.same)) (c.lower_materializing-r1.ensures.walked, c.lower_materializing-r1.ensures.done) _ c.is_refusal-3.ensures c.if-is_refusal-3.false
     (then_emitted tree _ _ _ _ refl c.emit_instruction-emitted.ensures.words c.in-Ok.is
     (then_patched _ _ _ _ c.patch_to_next.ensures.words
     (then_else _ _ _ _ _ _ c.if-else_branch.false
-    (stop_branch _ checked few (c.peek_into-f2.ensures.done, (c.peek_into-f2.ensures.inner, c.peek_into-f2.ensures.same)) (c.lower_materializing-r2.ensures.walked, c.lower_materializing-r2.ensures.done) _ c.is_refusal-4.ensures (operand_at _) c.if-is_refusal-4.true)))))))
+    (stop_branch _ checked _ (c.peek_into-f2.ensures.done, (c.peek_into-f2.ensures.inner, c.peek_into-f2.ensures.same)) (c.lower_materializing-r2.ensures.walked, c.lower_materializing-r2.ensures.done) _ c.is_refusal-4.ensures (operand_at _) c.if-is_refusal-4.true)))))))
 
 pub lower_if-returns-clause-lowers : goal.lower_if-returns-clause-lowers
 unfolding lower_node words_of settled
@@ -590,11 +579,11 @@ lower_if-returns-clause-lowers t c =
     (if_of checked _ c.requires.1 c.node_word-condition.ensures c.node_word-then_branch.ensures c.node_word-else_branch.ensures _ _
     (then_by tree _ place_at _ _ _ c.lower_jump_if_false-r.ensures.lowers c.is_refusal.ensures c.if-is_refusal.false c.value_of-jump_if_false.ensures
     (then_by tree _ register_at _ _ _ (c.destination-t.ensures.step tree _ _ _) c.is_refusal-2.ensures c.if-is_refusal-2.false c.value_of-d.ensures
-    (then_branch_lem _ checked few (c.peek_into-f1.ensures.done, (c.peek_into-f1.ensures.inner, c.peek_into-f1.ensures.same)) (c.lower_materializing-r1.ensures.walked, c.lower_materializing-r1.ensures.done) _ c.is_refusal-3.ensures c.if-is_refusal-3.false
+    (then_branch_lem _ checked _ (c.peek_into-f1.ensures.done, (c.peek_into-f1.ensures.inner, c.peek_into-f1.ensures.same)) (c.lower_materializing-r1.ensures.walked, c.lower_materializing-r1.ensures.done) _ c.is_refusal-3.ensures c.if-is_refusal-3.false
     (then_emitted tree _ _ _ _ refl c.emit_instruction-emitted.ensures.words c.in-Ok.is
     (then_patched _ _ _ _ c.patch_to_next.ensures.words
     (then_else _ _ _ _ _ _ c.if-else_branch.false
-    (then_branch_lem _ checked few (c.peek_into-f2.ensures.done, (c.peek_into-f2.ensures.inner, c.peek_into-f2.ensures.same)) (c.lower_materializing-r2.ensures.walked, c.lower_materializing-r2.ensures.done) _ c.is_refusal-4.ensures c.if-is_refusal-4.false
+    (then_branch_lem _ checked _ (c.peek_into-f2.ensures.done, (c.peek_into-f2.ensures.inner, c.peek_into-f2.ensures.same)) (c.lower_materializing-r2.ensures.walked, c.lower_materializing-r2.ensures.done) _ c.is_refusal-4.ensures c.if-is_refusal-4.false
     (then_patched _ _ _ _ c.patch_to_next-2.ensures.words
     (ended _ _ _ _ few))))))))))
 
@@ -741,7 +730,7 @@ pub lower_unary-peek-f1-requires : goal.lower_unary-peek-f1-requires
 lower_unary-peek-f1-requires t c = (child_in _ _ _ c.requires.0.0 (single_below _ _ c.only_operand-operand.ensures _ _ c.args.self.now.checked c.requires.1), λ e. cc)
 
 pub lower_unary-lower_materializing-r1-requires : goal.lower_unary-lower_materializing-r1-requires
-lower_unary-lower_materializing-r1-requires t c = walk_in _ _ _ _ c.requires.0.0 (single_below _ _ c.only_operand-operand.ensures _ _ c.args.self.now.checked c.requires.1) (omega (arith, c.decreases)) omega arith (λ h. omega (arith, (c.peek-f1.ensures.inner h).1.0))
+lower_unary-lower_materializing-r1-requires t c = walk_in _ _ None _ c.requires.0.0 (single_below _ _ c.only_operand-operand.ensures _ _ c.args.self.now.checked c.requires.1) (omega (arith, c.decreases)) tt (λ h. omega (arith, (c.peek-f1.ensures.inner h).1.0))
 
 pub lower_unary-returns-then-is_refusal-2-clause-lowers : goal.lower_unary-returns-then-is_refusal-2-clause-lowers
 lower_unary-returns-then-is_refusal-2-clause-lowers t c =
@@ -790,7 +779,7 @@ pub property-peek-f1-requires : goal.property-peek-f1-requires
 property-peek-f1-requires t c = (child_in _ _ _ c.requires.0.0 (property_below c.args.self.now.checked _ c.requires.1 c.node_word-object.ensures c.node_word-property.ensures), λ e. cc)
 
 pub property-lower_materializing-r1-requires : goal.property-lower_materializing-r1-requires
-property-lower_materializing-r1-requires t c = walk_in _ _ _ _ c.requires.0.0 (property_below c.args.self.now.checked _ c.requires.1 c.node_word-object.ensures c.node_word-property.ensures) (omega (arith, c.decreases)) omega arith (λ h. omega (arith, (c.peek-f1.ensures.inner h).1.0))
+property-lower_materializing-r1-requires t c = walk_in _ _ None _ c.requires.0.0 (property_below c.args.self.now.checked _ c.requires.1 c.node_word-object.ensures c.node_word-property.ensures) (omega (arith, c.decreases)) tt (λ h. omega (arith, (c.peek-f1.ensures.inner h).1.0))
 
 pub property-returns-then-is_refusal-2-clause-lowers : goal.property-returns-then-is_refusal-2-clause-lowers
 property-returns-then-is_refusal-2-clause-lowers t c =
@@ -854,10 +843,10 @@ test-returns-then-is_refusal-clause-lowers t c =
       | test-then-node_word-lt-IDENTIFIER w ↦
           at_meeting tree register_at (ap (λ b. b.code.now) w.buffers-is) (ap (λ b. b.constants.now) w.buffers-is) (ap (λ b. b.marks.now) w.buffers-is) w.r-is
           (literal_value c.args.self.now.checked c.args.node (omega (arith, kind, w.if-node_word-lt-IDENTIFIER.true)) None _
-          (rw (w.literal.ensures, dest_of_any) at (w.load_constant-r.ensures.step tree (words c.args.buffers.now.marks.now))))
+          (rw w.literal.ensures at (w.load_constant-r.ensures.step tree (words c.args.buffers.now.marks.now))))
       | test-else-node_word-lt-IDENTIFIER w ↦
           at_meeting tree register_at (ap (λ b. b.code.now) w.buffers-is) (ap (λ b. b.constants.now) w.buffers-is) (ap (λ b. b.marks.now) w.buffers-is) w.r-is
-          (answered_value c.args.self.now.checked c.args.node (omega (arith, kind, w.if-node_word-lt-IDENTIFIER.false)) None _ _ _ (rw dest_of_any at w.lower_expression-r.ensures.lowers))
+          (answered_value c.args.self.now.checked c.args.node (omega (arith, kind, w.if-node_word-lt-IDENTIFIER.false)) None _ _ _ w.lower_expression-r.ensures.lowers)
     ] in
     stop_by _ _ register_at _ _ _ value place_at c.is_refusal.ensures c.if-is_refusal.true
 
@@ -873,10 +862,10 @@ test-returns-in_default-clause-lowers t c =
       | test-then-node_word-lt-IDENTIFIER w ↦
           at_meeting tree register_at (ap (λ b. b.code.now) w.buffers-is) (ap (λ b. b.constants.now) w.buffers-is) (ap (λ b. b.marks.now) w.buffers-is) w.r-is
           (literal_value c.args.self.now.checked c.args.node (omega (arith, kind, w.if-node_word-lt-IDENTIFIER.true)) None _
-          (rw (w.literal.ensures, dest_of_any) at (w.load_constant-r.ensures.step tree (words c.args.buffers.now.marks.now))))
+          (rw w.literal.ensures at (w.load_constant-r.ensures.step tree (words c.args.buffers.now.marks.now))))
       | test-else-node_word-lt-IDENTIFIER w ↦
           at_meeting tree register_at (ap (λ b. b.code.now) w.buffers-is) (ap (λ b. b.constants.now) w.buffers-is) (ap (λ b. b.marks.now) w.buffers-is) w.r-is
-          (answered_value c.args.self.now.checked c.args.node (omega (arith, kind, w.if-node_word-lt-IDENTIFIER.false)) None _ _ _ (rw dest_of_any at w.lower_expression-r.ensures.lowers))
+          (answered_value c.args.self.now.checked c.args.node (omega (arith, kind, w.if-node_word-lt-IDENTIFIER.false)) None _ _ _ w.lower_expression-r.ensures.lowers)
     ] in
     let told = c.jump_if.ensures _ ∙ same_fields _ c.reg_of.ensures refl refl in
     by_answer _ _ _ _ _ _ (c.refused.ensures.state, c.refused.ensures.answer)
@@ -895,10 +884,10 @@ test-returns-clause-lowers t c =
       | test-then-node_word-lt-IDENTIFIER w ↦
           at_meeting tree register_at (ap (λ b. b.code.now) w.buffers-is) (ap (λ b. b.constants.now) w.buffers-is) (ap (λ b. b.marks.now) w.buffers-is) w.r-is
           (literal_value c.args.self.now.checked c.args.node (omega (arith, kind, w.if-node_word-lt-IDENTIFIER.true)) None _
-          (rw (w.literal.ensures, dest_of_any) at (w.load_constant-r.ensures.step tree (words c.args.buffers.now.marks.now))))
+          (rw w.literal.ensures at (w.load_constant-r.ensures.step tree (words c.args.buffers.now.marks.now))))
       | test-else-node_word-lt-IDENTIFIER w ↦
           at_meeting tree register_at (ap (λ b. b.code.now) w.buffers-is) (ap (λ b. b.constants.now) w.buffers-is) (ap (λ b. b.marks.now) w.buffers-is) w.r-is
-          (answered_value c.args.self.now.checked c.args.node (omega (arith, kind, w.if-node_word-lt-IDENTIFIER.false)) None _ _ _ (rw dest_of_any at w.lower_expression-r.ensures.lowers))
+          (answered_value c.args.self.now.checked c.args.node (omega (arith, kind, w.if-node_word-lt-IDENTIFIER.false)) None _ _ _ w.lower_expression-r.ensures.lowers)
     ] in
     let told = c.jump_if.ensures _ ∙ same_fields _ c.reg_of.ensures refl refl in
     by_answer _ _ _ _ _ _ (c.answered.ensures.state, c.answered.ensures.answer)
