@@ -93,7 +93,7 @@ fn refusals_are_those_of_the_crates() {
     let numbers = read("crates/diagnostics/src/lib.rt");
     for (refusal, number) in Refusal::ALL.iter().zip(1..) {
         assert_eq!((refusal.number(), Refusal::from_number(number)), (number, Some(*refusal)));
-        assert!(numbers.contains(&format!("Refusal::{refusal:?} => {number},")), "{refusal:?}");
+        assert!(numbers.contains(&format!("    {refusal:?} = {number},")), "{refusal:?}");
     }
     assert_eq!([0, 20, u32::MAX].map(Refusal::from_number), [None; 3]);
 }
