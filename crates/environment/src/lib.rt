@@ -1,9 +1,9 @@
 // Registers (kaori's codegen/environment.rs): the register set, the parameters' registers and the lookup of a name.
 #![tactic(auto)]
 
-ghost use Rattle.std.specs.Prelude.{◌≡◌, cond, ◌-◌, ◌/◌, ◌%◌, ◌^◌, min, eqb};
+ghost use Rattle.std.specs.Prelude.{◌≡◌, cond, ◌-◌, ◌/◌, ◌%◌, ◌^◌, min, ltb, eqb, Some, None};
 ghost use Rattle.words.specs.Words.{words};
-ghost use Rattle.environment.specs.Registers.{word_bits, all_free, smallest_free, taken, given_back, held};
+ghost use Rattle.environment.specs.Registers.{register_count, word_bits, all_free, smallest_free, taken, given_back, held};
 ghost use Rattle.environment.specs.Environment.{allocated, freed, parameters, lookup};
 
 use diagnostics::Refusal;
@@ -79,28 +79,28 @@ impl RegisterSet {
         }
     }
 
-    // The smallest free register, or 256.
-    fn smallest_free(self) -> u32
-        ensures { result ≡ smallest_free self.words }
+    // The smallest free register, if there is one.
+    fn smallest_free(self) -> Option<u32>
+        ensures { result ≡ cond (ltb (smallest_free self.words) register_count) (Some (smallest_free self.words)) None }
     {
         let words = self.words;
         let t0 = u64::trailing_zeros(words[0]);
         if t0 < BITS {
-            return t0;
+            return Some(t0);
         }
         let t1 = u64::trailing_zeros(words[1]);
         if t1 < BITS {
-            return BITS + t1;
+            return Some(BITS + t1);
         }
         let t2 = u64::trailing_zeros(words[2]);
         if t2 < BITS {
-            return 2 * BITS + t2;
+            return Some(2 * BITS + t2);
         }
         let t3 = u64::trailing_zeros(words[3]);
         if t3 < BITS {
-            return 3 * BITS + t3;
+            return Some(3 * BITS + t3);
         }
-        REGISTERS
+        None
     }
 
     // The set with the bit of register r turned over; a number past the last register changes nothing. The first word, which has nearly
@@ -131,21 +131,19 @@ impl RegisterSet {
     pub fn take(self) -> Taken
         ensures { result ≡ taken self }
     {
-        let r = self.smallest_free();
-        if r < REGISTERS {
-            let flipped = self.flipped(r);
-            let words = flipped.words;
-            let old = self.frame_size;
-            let frame_size = if old < r + 1 { r + 1 } else { old };
-            Taken {
-                set: RegisterSet { words, frame_size },
-                place: Ok(r),
-            }
-        } else {
-            Taken {
+        let Some(r) = self.smallest_free() else {
+            return Taken {
                 set: self,
                 place: Err(Refusal::Registers),
-            }
+            };
+        };
+        let flipped = self.flipped(r);
+        let words = flipped.words;
+        let old = self.frame_size;
+        let frame_size = if old < r + 1 { r + 1 } else { old };
+        Taken {
+            set: RegisterSet { words, frame_size },
+            place: Ok(r),
         }
     }
 

@@ -133,7 +133,7 @@ module _ (s : List ℕ) (at : ℕ) (rest : List ℕ) where
   unfolding differing
   differing_later e = rw e
 
-  differing_here : agrees s (case_at s at) ≡ false → differing s (at ∷ rest) ≡ at
+  differing_here : agrees s (case_at s at) ≡ false → differing s (at ∷ rest) ≡ Some at
   unfolding differing
   differing_here e = rw e
 
@@ -141,19 +141,26 @@ module _ (s : List ℕ) (at : ℕ) (rest : List ℕ) where
   unfolding end_of
   end_more = refl
 
-pub differing_within : (n : ℕ) (s : List ℕ) (at : ℕ) → at ≤ length s → differing s (cases_from n s at) ≤ length s
+-- a place that is found is within the record
+abbrev pub Within : List ℕ → Option ℕ → Type 0
+Within s found = (place : ℕ) → found ≡ Some place → place ≤ length s
+
+within_none : (s : List ℕ) → Within s None
+within_none s place e = let z : ◌≡◌ {A = ℕ} 0 1 = cc in absurd (omega arith)
+
+pub differing_within : (n : ℕ) (s : List ℕ) (at : ℕ) → at ≤ length s → Within s (differing s (cases_from n s at))
 unfolding cases_from differing
-differing_within zero s at l = omega arith
+differing_within zero s at l = within_none s
 differing_within (suc n) s at l = go (dec_le (case_at s at).next (length s)) (λ m. differing_within n s (case_at s at).next m)
   where
-    go : Dec ((case_at s at).next ≤ length s) → ((case_at s at).next ≤ length s → differing s (cases_from n s (case_at s at).next) ≤ length s)
-        → differing s (cases_from (suc n) s at) ≤ length s
+    go : Dec ((case_at s at).next ≤ length s) → ((case_at s at).next ≤ length s → Within s (differing s (cases_from n s (case_at s at).next)))
+        → Within s (differing s (cases_from (suc n) s at))
     go (yes m) below = rw (cases_more s at n m) (or_here (agrees s (case_at s at)) (below m))
       where
-        or_here : (b : Bool) → differing s (cases_from n s (case_at s at).next) ≤ length s → cond b (differing s (cases_from n s (case_at s at).next)) at ≤ length s
+        or_here : (b : Bool) → Within s (differing s (cases_from n s (case_at s at).next)) → Within s (cond b (differing s (cases_from n s (case_at s at).next)) (Some at))
         or_here true h = h
-        or_here false h = l
-    go (no m) below = rw (cases_cut s at (suc n) (omega arith)) (omega arith)
+        or_here false h = λ place e. let z : at ≡ place = cc in rw z at l
+    go (no m) below = rw (cases_cut s at (suc n) (omega arith)) (within_none s)
 
 -- all cases: `told` of them, the first at `first`
 module _ (s : List ℕ) (told first : ℕ) where
@@ -166,20 +173,20 @@ module _ (s : List ℕ) (told first : ℕ) where
 
   -- What holds after i cases, of which `count` agree, with the next at `at`, and the first that differs at `found`: these with what is left give what
   -- all cases give.
-  pub record Replayed (at found count i : ℕ) : Type 0 where
+  pub record Replayed (at : ℕ) (found : Option ℕ) (count i : ℕ) : Type 0 where
     pub within : at ≤ length s
     pub few : count ≤ i
     pub counts : count + agreeing s (left at i) ≡ agreeing s all
     pub ends : end_of s at (left at i) ≡ end_of s first all
     -- as long as all agree, none is found, and the first that differs is the first of those left
-    pub none : count ≡ i → (found ≡ length s) × (differing s (left at i) ≡ differing s all)
+    pub none : count ≡ i → (found ≡ None) × (differing s (left at i) ≡ differing s all)
     pub once : (count ≡ i → ⊥) → found ≡ differing s all
 
-  pub start : first ≤ length s → Replayed first (length s) 0 0
+  pub start : first ≤ length s → Replayed first None 0 0
   start l = record { within = l; few = omega arith; counts = simp unary_clauses (omega arith); ends = simp unary_clauses; none = λ e. (refl, simp unary_clauses); once = λ n. absurd (n refl) }
 
   -- one case more, c at `at`
-  module _ {at found count i : ℕ} (r : Replayed at found count i) (more : i < told) {c : Case} (is : c ≡ case_at s at) (fits : c.next ≤ length s) where
+  module _ {at count i : ℕ} {found : Option ℕ} (r : Replayed at found count i) (more : i < told) {c : Case} (is : c ≡ case_at s at) (fits : c.next ≤ length s) where
     split : left at i ≡ at ∷ left (case_at s at).next (i + 1)
     split =
         let n : told - i ≡ suc (told - (i + 1)) = omega arith in
@@ -202,7 +209,7 @@ module _ (s : List ℕ) (told first : ℕ) where
         })
 
     -- the first that differs
-    pub differs : agrees s c ≡ false → count ≡ i → Replayed c.next at count (i + 1)
+    pub differs : agrees s c ≡ false → count ≡ i → Replayed c.next (Some at) count (i + 1)
     differs e q =
         let e' : agrees s (case_at s at) ≡ false = rw is at e in
         let rest = left (case_at s at).next (i + 1) in
@@ -235,21 +242,21 @@ module _ (s : List ℕ) (told first : ℕ) where
   none_left at i l = let z : told - i ≡ 0 = omega arith in rw z
 
   -- what a replay that ends there gives is what the record's cases give
-  abbrev pub ReplayGives : ℕ → ℕ → ℕ → Type 0
-  ReplayGives at found count = (record { cases = told; agreeing = count; differing = found; end = at } ≡ outcome s) × (found ≤ length s)
+  abbrev pub ReplayGives : ℕ → Option ℕ → ℕ → Type 0
+  ReplayGives at found count = (record { cases = told; agreeing = count; differing = found; end = at } ≡ outcome s) × Within s found
 
   -- so it is where nothing is left to be replayed
-  module _ (told_so : told ≡ cases_told s) (first_so : first ≡ first_at s) (begins : first ≤ length s) {at found count i : ℕ} (r : Replayed at found count i) where
+  module _ (told_so : told ≡ cases_told s) (first_so : first ≡ first_at s) (begins : first ≤ length s) {at count i : ℕ} {found : Option ℕ} (r : Replayed at found count i) where
     finished : left at i ≡ [] → ReplayGives at found count
     unfolding agreeing differing end_of outcome
     finished empty =
         let counted : count ≡ agreeing s all = let z : agreeing s (left at i) ≡ 0 = rw empty in omega (arith, r.counts) in
         let ended : at ≡ end_of s first all = let z : at ≡ end_of s at (left at i) = rw empty in z ∙ r.ends in
-        let z : differing s (left at i) ≡ length s = rw empty in
+        let z : differing s (left at i) ≡ None = rw empty in
         let first_found : found ≡ differing s all = go z (ℕ_discrete count i) in
         (rw (counted, ended, first_found, told_so, first_so), rw first_found (differing_within told s first begins))
       where
-        go : differing s (left at i) ≡ length s → Dec (count ≡ i) → found ≡ differing s all
+        go : differing s (left at i) ≡ None → Dec (count ≡ i) → found ≡ differing s all
         go z (yes e) = (r.none e).0 ∙ sym z ∙ (r.none e).1
         go z (no n) = r.once n
 

@@ -1,6 +1,6 @@
 -- A record of answers: how it is laid out, which cases it has, and what their replay gives. `at`, and each name that ends in At or End, is an offset in bytes from
 -- the start of the record s.
-use Rattle.std.specs.Prelude.{ℕ, zero, suc, ◌+◌, ◌-◌, ◌*◌, List, [], ◌∷◌, Bool, true, false, cond, leb, eqb, length, take, drop}
+use Rattle.std.specs.Prelude.{ℕ, zero, suc, ◌+◌, ◌-◌, ◌*◌, List, [], ◌∷◌, Bool, true, false, cond, leb, eqb, length, take, drop, Option, Some, None}
 use Rattle.std.specs.Option.{unwrap_or}
 use Rattle.std.specs.Str.{bytes_eq}
 use Rattle.listing.specs.Column.{column_bytes, read_column, column_number}
@@ -92,10 +92,10 @@ unfoldable pub agreeing : List ℕ → List ℕ → ℕ
 agreeing s [] = 0
 agreeing s (at ∷ rest) = cond (agrees s (case_at s at)) (suc (agreeing s rest)) (agreeing s rest)
 
--- where the line of the first begins that does not agree; the record's end if all agree
-unfoldable pub differing : List ℕ → List ℕ → ℕ
-differing s [] = length s
-differing s (at ∷ rest) = cond (agrees s (case_at s at)) (differing s rest) at
+-- where the line of the first begins that does not agree; None if all agree
+unfoldable pub differing : List ℕ → List ℕ → Option ℕ
+differing s [] = None
+differing s (at ∷ rest) = cond (agrees s (case_at s at)) (differing s rest) (Some at)
 
 -- where the last of them ends; `at` if there is none
 unfoldable pub end_of : List ℕ → ℕ → List ℕ → ℕ

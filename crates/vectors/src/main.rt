@@ -1,7 +1,7 @@
 // Replays recorded answers: lists each text of data/answers.txt, and compares every byte with the answer recorded for it.
 #![tactic(auto)]
 
-ghost use Rattle.std.specs.Prelude.{◌≡◌, ◌≤◌, length};
+ghost use Rattle.std.specs.Prelude.{◌≡◌, ℕ, ◌≤◌, length, Some};
 ghost use Rattle.std.specs.Str.{bytes_eq};
 ghost use Rattle.listing.specs.Output.{lowerlist};
 ghost use Rattle.vectors.specs.Answers.{line_end, comments_end, number, case_at, outcome};
@@ -25,12 +25,12 @@ struct Case {
     next: usize,
 }
 
-// How many cases the record says that it has, how many agree, where the line of the first that differs begins (the record's end if none does), and where the last ends.
+// How many cases the record says that it has, how many agree, where the line of the first that differs begins, if one does, and where the last ends.
 #[derive(Drop)]
 struct Outcome {
     cases: u32,
     agreeing: u32,
-    differing: usize,
+    differing: Option<usize>,
     end: usize,
 }
 
@@ -90,12 +90,12 @@ fn case_at(answers: &[u8], at: usize) -> Case
 #[tactic(auto, using(crate::proofs::Laws::comments_within, crate::proofs::Laws::case_ordered))]
 fn replay(answers: &[u8]) -> Outcome
     ensures outcome { result ≡ outcome answers.now }
-    ensures within { result.differing ≤ length answers.now }
+    ensures within { (at : ℕ) → result.differing ≡ Some at → at ≤ length answers.now }
 {
     let comments = comments_end(answers);
     let cases = number(answers, comments);
     let mut at = line_end(answers, comments);
-    let mut differing = answers.len();
+    let mut differing = None;
     let mut agreeing: u32 = 0;
     for i in 0..cases {
         let c = case_at(answers, at);
@@ -105,7 +105,7 @@ fn replay(answers: &[u8]) -> Outcome
         if agrees(&answers[c.text..c.answer], &answers[c.answer..c.next]) {
             agreeing += 1;
         } else if agreeing == i {
-            differing = at;
+            differing = Some(at);
         }
         at = c.next;
     }
@@ -119,11 +119,13 @@ fn replay(answers: &[u8]) -> Outcome
 
 // Prints what a replay gave.
 fn report<R: Print>(rt: &R, answers: &[u8], r: Outcome) -> io::Result<()>
-    requires { r.differing ≤ length answers.now }
+    requires { (at : ℕ) → r.differing ≡ Some at → at ≤ length answers.now }
 {
     println!(rt; "{} of {} answers agree", r.agreeing, r.cases)?;
-    let end = line_end(answers, r.differing);
-    io::writer(rt).write_all(&answers[r.differing..end])?;
+    if let Some(at) = r.differing {
+        let end = line_end(answers, at);
+        io::writer(rt).write_all(&answers[at..end])?;
+    }
     if r.end != answers.len() {
         println!(rt; "the record is cut, or goes on behind its last case")?;
     }

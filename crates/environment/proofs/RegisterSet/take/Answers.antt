@@ -1,6 +1,6 @@
 -- `RegisterSet::take` meets its contract: the smallest free register's bit is set, so turning it over clears it. Assumes nothing.
-use Rattle.std.proofs.Common.{◌≡◌, true, ℕ, ◌+◌, ◌<◌, ◌≤◌, max, arith, Ok, Err}
-use borrow.Author.Tests.{lt-ltb, le-ltb}
+use Rattle.std.proofs.Common.{◌≡◌, refl, sym, ◌∙◌, Bool, true, false, cond, ltb, ℕ, ◌+◌, ◌<◌, max, arith, Option, Some, None, Ok, Err}
+use borrow.Author.Tests.{ltb-true}
 use Rattle.diagnostics.specs.declared.Refusal.{Refusal}
 use Rattle.environment.specs.declared.RegisterSet.{RegisterSet}
 use Rattle.environment.specs.declared.Taken.{Taken}
@@ -9,23 +9,35 @@ use Rattle.environment.proofs.Free.{smallest_free_free, put_back_free}
 use Rattle.environment.proofs.RegisterSet.take.Goals as goal
 
 -- what it answers at the smallest free register r, which t has turned over, with frame f, and where there is none
-taken_at : (s t : RegisterSet) (r f : ℕ) → r ≡ smallest_free s.words → r < 256 → t ≡ given_back s r → f ≡ max s.frame_size (r + 1) →
-    ◌≡◌ {A = Taken} (record { set = record { words = t.words; frame_size = f }; place = Ok r }) (taken s)
-unfolding taken without given_back
-taken_at s t r f e h q m =
-    let l : smallest_free s.words < 256 = rw e at h in
-    let o : free s.words (smallest_free s.words) ≡ true = smallest_free_free s.words l in
-    rw (q, m, e, lt-ltb (smallest_free s.words) 256 l, put_back_free s.words (smallest_free s.words) o)
+module _ (s : RegisterSet) {o : Option ℕ} (is : o ≡ cond (ltb (smallest_free s.words) 256) (Some (smallest_free s.words)) None) where
+  taken_at : {t : RegisterSet} {r f : ℕ} → o ≡ Some r → t ≡ given_back s r → f ≡ max s.frame_size (r + 1) →
+      ◌≡◌ {A = Taken} (record { set = record { words = t.words; frame_size = f }; place = Ok r }) (taken s)
+  unfolding taken without given_back
+  taken_at {t} {r} {f} e q m = go (ltb (smallest_free s.words) 256) refl (sym e ∙ is)
+    where
+      go : (b : Bool) → ltb (smallest_free s.words) 256 ≡ b → Some r ≡ cond b (Some (smallest_free s.words)) None →
+          ◌≡◌ {A = Taken} (record { set = record { words = t.words; frame_size = f }; place = Ok r }) (taken s)
+      go true h p =
+          let l : smallest_free s.words < 256 = ltb-true _ _ h in
+          let z : r ≡ smallest_free s.words = cc in
+          let there : free s.words (smallest_free s.words) ≡ true = smallest_free_free s.words l in
+          rw (q, m, z, h, put_back_free s.words (smallest_free s.words) there)
+      go false h p = let z : ◌≡◌ {A = ℕ} 0 1 = cc in absurd (omega arith)
 
-taken_none : (s : RegisterSet) (r : ℕ) → r ≡ smallest_free s.words → 256 ≤ r → ◌≡◌ {A = Taken} (record { set = s; place = Err Refusal.Registers }) (taken s)
-unfolding taken
-taken_none s r e h = let l : 256 ≤ smallest_free s.words = rw e at h in rw (le-ltb (smallest_free s.words) 256 l)
+  taken_none : o ≡ None → ◌≡◌ {A = Taken} (record { set = s; place = Err Refusal.Registers }) (taken s)
+  unfolding taken
+  taken_none e = go (ltb (smallest_free s.words) 256) refl (sym e ∙ is)
+    where
+      go : (b : Bool) → ltb (smallest_free s.words) 256 ≡ b → None ≡ cond b (Some (smallest_free s.words)) None →
+          ◌≡◌ {A = Taken} (record { set = s; place = Err Refusal.Registers }) (taken s)
+      go true h p = let z : ◌≡◌ {A = ℕ} 0 1 = cc in absurd (omega arith)
+      go false h p = rw h
 
 pub returns-then-old-r : goal.returns-then-old-r
-returns-then-old-r c = taken_at c.args.self _ _ _ c.smallest_free-r.ensures c.if-r-lt-REGISTERS.true c.flipped-flipped.ensures (omega arith)
+returns-then-old-r c = taken_at c.args.self c.smallest_free.ensures c.in-Some.is c.flipped-flipped.ensures (omega arith)
 
 pub returns-else-old-r : goal.returns-else-old-r
-returns-else-old-r c = taken_at c.args.self _ _ _ c.smallest_free-r.ensures c.if-r-lt-REGISTERS.true c.flipped-flipped.ensures (omega arith)
+returns-else-old-r c = taken_at c.args.self c.smallest_free.ensures c.in-Some.is c.flipped-flipped.ensures (omega arith)
 
-pub returns-else-r-lt-REGISTERS : goal.returns-else-r-lt-REGISTERS
-returns-else-r-lt-REGISTERS c = taken_none c.args.self _ c.smallest_free-r.ensures c.if-r-lt-REGISTERS.false
+pub returns-in_default : goal.returns-in_default
+returns-in_default c = taken_none c.args.self c.smallest_free.ensures c.in_default.is
