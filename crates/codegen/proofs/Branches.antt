@@ -2,15 +2,14 @@
 use Rattle.std.specs.Prelude.{Option, Some}
 use Prim.Native.Nat.{ℕ, suc, ◌+◌, ◌-◌, ◌%◌, ◌<◌, ◌≤◌}
 use native.Mathlib.Omega.{arith}
-use mathlib.Core.Path.{◌≡◌, refl, sym, ◌∙◌}
+use mathlib.Core.Path.{◌≡◌, refl, sym}
 use mathlib.Core.Logic.{◌≢◌, ◌⊎◌, inl, inr}
-use mathlib.Core.Bool.{Bool, true, false, cond}
+use mathlib.Core.Bool.{true, cond}
 use mathlib.Core.List.{List, [], ◌∷◌}
 use lib.Dec.{eqb}
 use lib.ListN.{get_or}
 use borrow.Author.Tests.{eq-eqb, ne_eqb}
 use Rattle.diagnostics.specs.declared.Refusal.{Refusal}
-use Rattle.words.specs.Words.{words}
 use Rattle.words.specs.Records.{Buffer, append, max_count}
 use Rattle.environment.specs.declared.Register.{Register}
 use Rattle.syntax.specs.declared.ast.Node.{Node}
@@ -20,54 +19,18 @@ use Rattle.runtime.specs.declared.operand.Operand.{Operand}
 use Rattle.runtime.specs.Instruction.{words_of}
 use Rattle.runtime.specs.Operands.{reg_of}
 use Rattle.lowering.specs.declared.State.{State}
-use Rattle.lowering.specs.Tree.{Tree, node, span_start, span_end}
+use Rattle.lowering.specs.Tree.{Tree, span_start, span_end}
 use Rattle.lowering.specs.Checked.{Checked, IfBelow, CallBelow}
 use Rattle.lowering.specs.Walk.{Made, made, Outcome, Walk, bind, ◌>>=◌, ◌>>◌, ret}
 use Rattle.lowering.specs.Steps.{free_temp, destination, emit, patch_to_next, mark}
 use Rattle.lowering.specs.Lower.{refuse, lower_materializing, lower_arguments, lower_else, lower_node, lower_expression, lower_jump_if_false}
 use Rattle.patch.specs.Arguments.{mark_argument}
 use Rattle.steps.specs.declared.answer.AnswerAndState.{AnswerAndState}
-use Rattle.steps.specs.Answers.{register_at, operand_at, settled, seen, is_refusal, is_inner, value_of, refusal_at, names_node, error_at, word_end, unit_at}
+use Rattle.steps.specs.Answers.{register_at, settled, seen, refusal_at, names_node, error_at, word_end, unit_at}
 use Rattle.steps.proofs.Words.{register_at_local}
-use Rattle.steps.proofs.Chains.{stop_by, seen_refusal, seen_word}
-use Rattle.codegen.specs.Kinds.{binary_kind, and_kind, or_kind, if_kind, call_kind}
-use Rattle.codegen.proofs.Walk.{below_of, expression_of, then_into}
-use Rattle.codegen.proofs.Children.{into_of}
-
--- ---- a child in d
-
--- the tree with these words, whose list is given by its bytes
-abbrev tree_with : List ℕ → List ℕ → List ℕ → Tree
-tree_with nodes list names = record { nodes = nodes; list = words list; names = names }
-
--- from code, pool, marks and s: `peek_into` left code₁, pool₁ and f, and `lower_materializing` code₂, pool₂, marks₂ and r
-module _ {nodes names code code₁ code₂ pool pool₁ pool₂ marks marks₁ marks₂ : List ℕ} {s : State} {f r : AnswerAndState} {n : ℕ} (list : List ℕ)
-    (checked : Checked (tree_with nodes list names)) (d : Register)
-    (peeked : ((list : List ℕ) → Checked (tree_with nodes list names) → is_inner f.answer ≡ false →
-    settled (lower_materializing (lower_expression free_temp (tree_with nodes list names) n) (Some d) (made code pool marks s))
-    ≡ seen (tree_with nodes list names) register_at (made code₁ pool₁ marks₁ f.state) f.answer)
-    × ((is_inner f.answer ≡ true →
-    ((f.state ≡ s) × ((code₁ ≡ code) × ((pool₁ ≡ pool) × (marks₁ ≡ marks)))) × ((value_of f.answer ≤ n) × (binary_kind ≤ node_word nodes (value_of f.answer) 0)))
-    × ((list : List ℕ) (e : Register) (m : Made) → Checked (tree_with nodes list names) → is_inner f.answer ≡ true →
-    lower_materializing (lower_expression free_temp (tree_with nodes list names) n) (Some e) m
-    ≡ lower_materializing (lower_expression free_temp (tree_with nodes list names) (value_of f.answer)) (Some e) m)))
-    (walked : (is_inner f.answer ≡ true →
-    settled (lower_expression free_temp (tree_with nodes list names) (value_of f.answer) (Some d) (made code₁ pool₁ marks₁ s))
-    ≡ seen (tree_with nodes list names) (operand_at (node (tree_with nodes list names) (value_of f.answer))) (made code₂ pool₂ marks₂ r.state) r.answer)
-    × (is_inner f.answer ≡ false → (r ≡ f) × ((code₂ ≡ code₁) × ((pool₂ ≡ pool₁) × (marks₂ ≡ marks₁))))) where
-  branch : settled (lower_materializing (lower_expression free_temp (tree_with nodes list names) n) (Some d) (made code pool marks s))
-      ≡ seen (tree_with nodes list names) register_at (made code₂ pool₂ marks₂ r.state) r.answer
-  branch = into_of checked d peeked.1.0 (λ e m. peeked.1.1 list e m checked) walked.0 walked.1 (peeked.0 list checked)
-
-  module _ {B : Type 0} (k : Register → Walk B) {b : Bool} (told : b ≡ is_refusal r.answer) where
-    pub then_branch_lem : {q : Outcome B} → b ≡ false → settled (k d (made code₂ pool₂ marks₂ r.state)) ≡ q →
-        settled (bind (lower_materializing (lower_expression free_temp (tree_with nodes list names) n) (Some d) (made code pool marks s)) k) ≡ q
-    then_branch_lem left q = then_into (tree_with nodes list names) _ k n d _ r.answer branch (sym told ∙ left) q
-
-    pub stop_branch : (gives : ℕ → B) → b ≡ true →
-        settled (bind (lower_materializing (lower_expression free_temp (tree_with nodes list names) n) (Some d) (made code pool marks s)) k)
-        ≡ seen (tree_with nodes list names) gives (made code₂ pool₂ marks₂ r.state) r.answer
-    stop_branch gives taken = stop_by (tree_with nodes list names) _ register_at _ r.answer k branch gives told taken
+use Rattle.steps.proofs.Chains.{seen_refusal, seen_word}
+use Rattle.codegen.specs.Kinds.{and_kind, or_kind, if_kind, call_kind}
+use Rattle.codegen.proofs.Walk.{below_of, expression_of}
 
 -- ---- the end of an arm
 

@@ -1,41 +1,46 @@
 -- The laws by which lower_map, entry, flat_entry and set_property do what the clauses of a map say: a property store by its two fields, an entry by its key, and the
 -- entries one by one. Assumes nothing.
-use Rattle.std.specs.Prelude.{Option, Some, None, Ok, Err}
+use Rattle.std.specs.Prelude.{Option, Some, None}
+use Rattle.std.specs.Option.{is_some}
 use Prim.Native.Nat.{ℕ, zero, suc, ◌+◌, ◌*◌, ◌-◌, ◌<◌, ◌≤◌}
 use native.Mathlib.Omega.{arith}
-use native.Mathlib.Decide.{ℕ_discrete, dec_lt}
+use native.Mathlib.Decide.{ℕ_discrete}
 use mathlib.Core.Path.{ap, ◌≡◌, refl, sym, ◌∙◌}
 use mathlib.Core.Logic.{◌≢◌}
-use mathlib.Core.Bool.{Bool, true, false, cond, not, ◌&&◌, ◌||◌, false≢true, true≢false}
+use mathlib.Core.Bool.{Bool, true, false, cond, not, not-not, ◌&&◌, ◌||◌, false≢true, true≢false}
 use mathlib.Core.List.{List, [], ◌∷◌}
-use lib.Dec.{eqb, ltb}
+use lib.Dec.{eqb, leb}
 use lib.ListN.{get_or}
-use borrow.Author.Tests.{lt-ltb, le-ltb, eqb-true, eqb-false, eq-eqb, ne_eqb}
+use denote.Enum.Bare.{sameb}
+use borrow.Author.Tests.{leb-true, eqb-true, eqb-false, eq-eqb, ne_eqb}
 use Rattle.diagnostics.specs.declared.Refusal.{Refusal}
 use Rattle.words.specs.Words.{words}
-use Rattle.words.specs.declared.Appended.{Appended}
-use Rattle.words.specs.Records.{buffer}
 use Rattle.environment.specs.declared.Register.{Register}
+use Rattle.environment.specs.declared.RegisterSet.{RegisterSet}
 use Rattle.syntax.specs.declared.ast.Node.{Node}
-use Rattle.syntax.specs.Ast.{absent, node_kinds, node_word}
+use Rattle.syntax.specs.declared.kind.Kind.{Kind}
+use Rattle.syntax.specs.contracts.kind.Kind.{the_type}
+use Rattle.syntax.specs.Kinds.{kind_number}
+use Rattle.syntax.specs.Ast.{absent, node_of, node_kinds, node_word}
+use Rattle.syntax.proofs.KindWords.{differs_number}
 use Rattle.runtime.specs.declared.instruction.Instruction.{Instruction}
 use Rattle.runtime.specs.declared.opcode.Opcode.{Opcode}
 use Rattle.runtime.specs.declared.operand.Operand.{Operand}
 use Rattle.runtime.specs.Operands.{reg_of}
 use Rattle.runtime.specs.Instruction.{words_of}
 use Rattle.runtime.specs.Opcode.{opcode_number}
-use Rattle.runtime.specs.Function.{store_constant}
 use Rattle.lowering.specs.declared.State.{State}
 use Rattle.lowering.specs.Tree.{Tree, node}
 use Rattle.lowering.specs.Walk.{Made, made, Outcome, ends, stops, Walk, bind, ◌>>=◌, ret}
-use Rattle.lowering.specs.Steps.{free_temp, with_constants, emit, store}
+use Rattle.lowering.specs.Steps.{free_temp, emit, store}
 use Rattle.lowering.specs.Literals.{is_literal, literal}
 use Rattle.lowering.specs.Lower.{Source, source, register, constant, name_of, materialized, lower_materializing, store_named, store_keyed, lower_entry, lower_entries, lower_expression}
 use Rattle.lowering.proofs.Destinations.{GivesRegister, expression_register, node_kind}
-use Rattle.steps.specs.Answers.{register_at, literal_word, operand_at, source_at, place_at, word_end, refusal_at, is_refusal, value_of, names_node, error_at, settled, seen}
-use Rattle.steps.proofs.Chains.{got, stop_by, nested, seen_given, seen_refusal, then_stored, stop_stored}
-use Rattle.steps.proofs.Words.{source_operand}
-use Rattle.codegen.specs.Ready.{InArena}
+use Rattle.steps.specs.declared.counted.Counts.{Counts}
+use Rattle.steps.specs.declared.counted.AnswerAndCounts.{AnswerAndCounts}
+use Rattle.steps.specs.Answers.{register_at, literal_word, operand_at, source_at, place_at, word_end, refusal_at, is_refusal, value_of, names_node, error_at, settled, seen, state_of}
+use Rattle.steps.proofs.Chains.{got, stop_by, nested, seen_given, seen_word, seen_refusal}
+use Rattle.steps.proofs.Words.{source_operand, reg_of_register_at}
 use Rattle.codegen.specs.Kinds.{name_kind, key_operand, set_opcode}
 use Rattle.codegen.proofs.FlatNodes.{then_leaf}
 
@@ -76,40 +81,22 @@ set_words x y src1 src2 d key value = go (eqb src1 literal_word) (eqb src2 liter
     go false false = refl
 
 -- a field, by what the program has of it
-module _ (t : Tree) {B : Type 0} (m : Made) (c : Operand) (src : ℕ) (a : Appended) (k : ℕ → Walk B) {pool : List ℕ}
-    (pooled : src ≡ literal_word → buffer pool a ≡ store_constant m.constants m.state.constants c)
-    (held : src ≢ literal_word → (a ≡ record { count = m.state.constants; place = Ok (reg_of (register_at src)) }) × (pool ≡ m.constants)) where
-  pub then_field : {n : ℕ} {r : Outcome B} → a.place ≡ Ok n → settled (k n (with_constants pool a.count m)) ≡ r → settled (bind (field_of (source_at c src) m) k) ≡ r
-  unfolding source_at field_of bind
-  then_field {n} {r} h q = go (ℕ_discrete src literal_word)
-    where
-      go : Dec (src ≡ literal_word) → settled (bind (field_of (source_at c src) m) k) ≡ r
-      go (yes l) = rw (eq-eqb src literal_word l) (then_stored t m a k c (pooled l) h q)
-      go (no l) =
-          let same : n ≡ reg_of (register_at src) = cc (ap (λ (x : Appended). x.place) (held l).0) in
-          rw (ne_eqb src literal_word l) (rw (same, (held l).1, ap (λ (x : Appended). x.count) (held l).0) at q)
-
-  pub stop_field : {e : Refusal} (gives : ℕ → B) → a.place ≡ Err e →
-      settled (bind (field_of (source_at c src) m) k) ≡ seen t gives (with_constants pool m.state.constants m) (refusal_at Refusal.Constants 0)
-  unfolding source_at field_of bind
-  stop_field {e} gives h = go (ℕ_discrete src literal_word)
-    where
-      go : Dec (src ≡ literal_word) → settled (bind (field_of (source_at c src) m) k) ≡ seen t gives (with_constants pool m.state.constants m) (refusal_at Refusal.Constants 0)
-      go (yes l) = rw (eq-eqb src literal_word l) (stop_stored t m a k c (pooled l) gives h)
-      go (no l) =
-          let none : Err e ≡ Ok (reg_of (register_at src)) = sym h ∙ ap (λ (x : Appended). x.place) (held l).0 in
-          let z : ◌≡◌ {A = ℕ} 0 1 = cc in
-          absurd (omega arith)
+pub field_step : (t : Tree) (c : Operand) (src : ℕ) (code marks : List ℕ) {pool pool₁ : List ℕ} {counts : Counts} {r : AnswerAndCounts} (rs : RegisterSet) (n : ℕ) →
+    (src ≡ literal_word → (t : Tree) (rs : RegisterSet) (n : ℕ) (k m : List ℕ) →
+    settled (store c (made k pool m (state_of rs counts n))) ≡ seen t place_at (made k pool₁ m (state_of rs r.counts n)) r.answer) →
+    (src ≢ literal_word → (r ≡ record { counts = counts; answer = reg_of (register_at src) }) × (pool₁ ≡ pool)) →
+    settled (field_of (source_at c src) (made code pool marks (state_of rs counts n))) ≡ seen t place_at (made code pool₁ marks (state_of rs r.counts n)) r.answer
+unfolding source_at field_of settled
+field_step t c src code marks {pool} {pool₁} {counts} {r} rs n pooled held = go (ℕ_discrete src literal_word)
+  where
+    go : Dec (src ≡ literal_word) →
+        settled (field_of (source_at c src) (made code pool marks (state_of rs counts n))) ≡ seen t place_at (made code pool₁ marks (state_of rs r.counts n)) r.answer
+    go (yes l) = rw (eq-eqb src literal_word l) (pooled l t rs n code marks)
+    go (no l) =
+        let small : reg_of (register_at src) < word_end = omega (arith, reg_of_register_at src) in
+        rw (ne_eqb src literal_word l, (held l).0, (held l).1) (sym (seen_word t place_at _ (reg_of (register_at src)) small))
 
 -- ---- an entry by its key
-
--- the node whose value an entry gets is in the arena
-pub child_inside : (nodes : List ℕ) (key value child : ℕ) → InArena nodes key → (value ≢ absent → InArena nodes value) → child ≡ cond (eqb value absent) key value → InArena nodes child
-child_inside nodes key value child key-inside value-inside is = rw is (go (ℕ_discrete value absent))
-  where
-    go : Dec (value ≡ absent) → InArena nodes (cond (eqb value absent) key value)
-    go (yes h) = rw (eq-eqb value absent h) key-inside
-    go (no h) = rw (ne_eqb value absent h) (value-inside h)
 
 -- it is the value, if there is one
 pub valued : (key value : ℕ) → value ≢ absent → value ≡ cond (eqb value absent) key value
@@ -122,34 +109,44 @@ below_absent i value below small e = omega arith
 pub past_name : {kind : ℕ} → name_kind < kind → kind ≢ name_kind
 past_name past e = omega arith
 
--- what the program asks of an entry, by the kinds that it read: whether a key alone is no name
-module _ {kind k : ℕ} (read : k ≡ kind) (value : ℕ) where
-  pub alone : not (eqb k name_kind) && eqb value absent ≡ true → (kind ≢ name_kind) × (value ≡ absent)
+-- what the program asks of an entry, by the kind of its key: whether a key alone is no name
+module _ {kind : ℕ} (k : Kind) (value : ℕ) (n : Bool) {b : Bool} {o : Option ℕ} (read : kind_number k ≡ kind) (told : b ≡ not (sameb the_type k Kind.Identifier)) (asked : o ≡ node_of value)
+    (none : is_some o ≡ not n) where
+  no_value : n ≡ eqb value absent
+  unfolding node_of
+  no_value = sym (not-not n) ∙ ap not (sym none ∙ ap is_some asked) ∙ go (eqb value absent)
+    where
+      go : (c : Bool) → not (is_some (cond c None (Some value))) ≡ c
+      go true = refl
+      go false = refl
+
+  both : b && n ≡ not (eqb kind name_kind) && eqb value absent
+  both = rw (told, differs_number k Kind.Identifier read, no_value)
+
+  pub alone : b && n ≡ true → (kind ≢ name_kind) × (value ≡ absent)
   alone h = go (ℕ_discrete kind name_kind)
     where
       go : Dec (kind ≡ name_kind) → (kind ≢ name_kind) × (value ≡ absent)
-      go (yes e) = absurd (false≢true (rw (read, eq-eqb kind name_kind e) at h))
-      go (no e) = (e, eqb-true value absent (rw (read, ne_eqb kind name_kind e) at h))
+      go (yes e) = absurd (false≢true (rw (both, eq-eqb kind name_kind e) at h))
+      go (no e) = (e, eqb-true value absent (rw (both, ne_eqb kind name_kind e) at h))
 
-  module _ (h : not (eqb k name_kind) && eqb value absent ≡ false) where
-    pub not_alone : kind ≢ name_kind → value ≢ absent
-    not_alone e = eqb-false value absent (rw (read, ne_eqb kind name_kind e) at h)
+  pub not_alone : b && n ≡ false → kind ≢ name_kind → value ≢ absent
+  not_alone h e = eqb-false value absent (rw (both, ne_eqb kind name_kind e) at h)
 
-    -- and whether the key and the node whose value it gets are leaves: if not, there is a value
-    pub has_value : {other o : ℕ} → o ≡ other → (value ≡ absent → other ≡ kind) → ltb name_kind k || ltb name_kind o ≡ true → value ≢ absent
-    has_value {other} read' same deep e = go (ℕ_discrete kind name_kind)
-      where
-        go : Dec (kind ≡ name_kind) → ⊥
-        go (yes n) = false≢true (rw (read, read', same e, n) at deep)
-        go (no n) = not_alone n e
+-- and whether the key and the node whose value it gets are leaves
+module _ {kind other : ℕ} (k k' : Kind) {l l' : Bool} (read : kind_number k ≡ kind) (read' : kind_number k' ≡ other) (told : l ≡ leb (kind_number k) name_kind)
+    (told' : l' ≡ leb (kind_number k') name_kind) where
+  pub both_leaves : not l || not l' ≡ false → (kind ≤ name_kind) × (other ≤ name_kind)
+  both_leaves h = go l l' (told ∙ rw read) (told' ∙ rw read') h
+    where
+      go : (a b : Bool) → a ≡ leb kind name_kind → b ≡ leb other name_kind → not a || not b ≡ false → (kind ≤ name_kind) × (other ≤ name_kind)
+      go true true e e' h = (leb-true kind name_kind (sym e), leb-true other name_kind (sym e'))
+      go true false e e' h = absurd (true≢false h)
+      go false b e e' h = absurd (true≢false h)
 
-pub both_leaves : {a b k o : ℕ} → k ≡ a → o ≡ b → ltb name_kind k || ltb name_kind o ≡ false → (a ≤ name_kind) × (b ≤ name_kind)
-both_leaves {a} {b} read read' h = go (dec_lt name_kind a) (dec_lt name_kind b)
-  where
-    go : Dec (name_kind < a) → Dec (name_kind < b) → (a ≤ name_kind) × (b ≤ name_kind)
-    go (yes x) y = absurd (true≢false (rw (read, lt-ltb name_kind a x) at h))
-    go (no x) (yes y) = absurd (true≢false (rw (read, read', le-ltb name_kind a (omega arith), lt-ltb name_kind b y) at h))
-    go (no x) (no y) = (omega arith, omega arith)
+  -- if not, there is a value
+  pub has_value : {value : ℕ} → not l || not l' ≡ true → (value ≡ absent → other ≡ kind) → (kind ≢ name_kind → value ≢ absent) → value ≢ absent
+  has_value deep same has e = has (λ n. false≢true (rw (told, told', read, read', same e, n) at deep)) e
 
 module _ (t : Tree) (E : ℕ → Option Register → Walk Operand) (d : Register) where
   -- a name that is looked up is in a register

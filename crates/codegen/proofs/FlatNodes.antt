@@ -4,14 +4,13 @@ use Rattle.std.specs.Prelude.{Option, Some, None}
 use Prim.Native.Nat.{ℕ, ◌/◌, ◌<◌, ◌≤◌}
 use native.Mathlib.Omega.{arith}
 use native.Mathlib.Decide.{ℕ_discrete}
-use mathlib.Core.Path.{◌≡◌, refl, sym, ◌∙◌, ap}
+use mathlib.Core.Path.{◌≡◌, refl, sym, ◌∙◌}
 use mathlib.Core.Logic.{◌≢◌, inl, inr}
-use mathlib.Core.Bool.{Bool, true, false, cond, not, ◌&&◌, ◌||◌, and-false, false≢true, true≢false}
+use mathlib.Core.Bool.{Bool, true, false, cond, ◌&&◌, ◌||◌, and-false, false≢true}
 use mathlib.Core.List.{List}
 use lib.Dec.{eqb, leb}
 use lib.ListN.{length}
-use denote.Enum.Bare.{sameb}
-use borrow.Author.Tests.{lt-ltb, le-ltb, le-leb, lt-leb, leb-true, eqb-true, eqb-false, eq-eqb, ne_eqb}
+use borrow.Author.Tests.{lt-ltb, le-ltb, le-leb, lt-leb, leb-true, eqb-true, eq-eqb, ne_eqb}
 use Rattle.diagnostics.specs.declared.Refusal.{Refusal}
 use Rattle.environment.specs.declared.Register.{Register}
 use Rattle.environment.specs.Environment.{lookup}
@@ -20,7 +19,6 @@ use Rattle.syntax.specs.declared.ops.BinaryOp.{BinaryOp}
 use Rattle.syntax.specs.declared.ops.Comparison.{Comparison}
 use Rattle.syntax.specs.Ast.{node_word}
 use Rattle.syntax.specs.Ops.{binary_op}
-use Rattle.runtime.specs.declared.instruction.Instruction.{Instruction}
 use Rattle.runtime.specs.declared.operand.Operand.{Operand}
 use Rattle.runtime.specs.Operands.{reg_of}
 use Rattle.lowering.specs.Tree.{Tree, tree_of, node}
@@ -32,18 +30,17 @@ use Rattle.lowering.specs.Literals.{literal}
 use Rattle.lowering.specs.Lower.{source, materialized, lower_materializing, moved, lower_name, test, binary_sources, fused_sources, fuse, jump_node}
 use Rattle.lowering.specs.Lower.{lower_expression}
 use Rattle.lowering.proofs.Destinations.{Stays, binary_locals, node_kind}
-use Rattle.steps.specs.Answers.{none, any, register_at, literal_word, operand_at, source_at, word_end, refusal_start, refusal_at, is_refusal, error_at, names_node, settled, seen}
+use Rattle.steps.specs.Answers.{none, register_at, literal_word, operand_at, source_at, word_end, refusal_start, refusal_at, is_refusal, error_at, names_node, settled, seen}
 use Rattle.steps.specs.Answers.{is_inner, DestOrRefusal, WordOrRefusal}
 use Rattle.steps.proofs.Words.{source_operand, is_inner_word}
-use Rattle.steps.proofs.Chains.{then, stop, last, nested, seen_given, seen_stopped, seen_word, seen_refusal}
+use Rattle.steps.proofs.Chains.{then, stop, nested, seen_given, seen_stopped, seen_word, seen_refusal}
 use Rattle.codegen.specs.declared.flat.Asked.{Asked}
-use Rattle.codegen.specs.contracts.flat.Asked.{the_type}
-use Rattle.codegen.specs.Ready.{InArena, node_word_of}
+use Rattle.codegen.specs.Ready.{node_word_of}
 use Rattle.codegen.specs.Kinds.{name_kind, binary_kind}
-use Rattle.codegen.specs.Flat.{Falling, Given, are_leaves, is_flat, found_at, LocalOr, needing, flat_literal, name_dest, flat_node}
+use Rattle.codegen.specs.Flat.{Given, are_leaves, is_flat, found_at, LocalOr, needing, flat_literal, name_dest, flat_node}
 use Rattle.codegen.proofs.Walk.{is_literal_lem, literal_expression}
 use Rattle.codegen.proofs.Operands.{operator_of, both_constant, one_literal, first_source, second_source}
-use Rattle.codegen.proofs.Reading.{named_at, local_word, same_word}
+use Rattle.codegen.proofs.Reading.{named_at, local_word}
 
 -- ---- a register that is needed
 
@@ -125,6 +122,10 @@ own_dest Asked.Operand d h = refl
 own_dest Asked.Register d h = refl
 own_dest Asked.Into d h = absurd (h refl)
 
+pub into_dest : (asked : Asked) (d : ℕ) → asked ≡ Asked.Into → name_dest asked d ≡ Some (register_at d)
+unfolding name_dest
+into_dest asked d h = rw h
+
 -- how it is lowered
 module _ (t : Tree) (asked : Asked) (d i : ℕ) (m : Made) where
   pub literal_flat : node_word t.nodes i 0 < name_kind → asked ≢ Asked.Operand →
@@ -166,37 +167,6 @@ module _ (t : Tree) (i : ℕ) (kind : node_word t.nodes i 0 ≡ name_kind) (o : 
   unfolding moved bind
   then_name m k h q = rw (name_declared None m h) q
 
-  -- as a flat node: its own register if none is given or it is that one, else a Move
-  module _ (asked : Asked) (d : ℕ) (m : Made) where
-    flat_name : {r : Outcome Operand} → settled (lower_expression free_temp t i (name_dest asked d) m) ≡ r →
-        settled (flat_node t asked d i m) ≡ r
-    flat_name q = ap settled (name_flat t asked d i m kind) ∙ q
-
-    pub flat_name_undeclared : (gives : ℕ → Operand) → o ≡ None → i < word_end → settled (flat_node t asked d i m) ≡ seen t gives m (refusal_at Refusal.Undeclared i)
-    flat_name_undeclared gives h small = flat_name (last _ (stop_name _ m (λ x. ret x) gives h small))
-
-    pub flat_name_own : {w : ℕ} {r : Outcome Operand} → LocalOr o → o ≡ Some w → not (sameb the_type asked Asked.Into) || eqb w d ≡ true → ends (Operand.Register (register_at w)) m ≡ r →
-        settled (flat_node t asked d i m) ≡ r
-    unfolding name_dest moved settled
-    flat_name_own {w} {r} local h own q = flat_name (rw (name_declared (name_dest asked d) m h) (go asked own))
-      where
-        declared : (256 ≤ w) × (w < any)
-        declared = local_word local h
-
-        go : (a : Asked) → not (sameb the_type a Asked.Into) || eqb w d ≡ true → settled (moved t (register_at w) (name_dest a d) m) ≡ r
-        go Asked.Operand own = q
-        go Asked.Register own = q
-        go Asked.Into own = rw (← eqb-true w d own, same_word w w declared.1 declared.0 declared.1, eq-eqb w w refl) q
-
-    pub flat_name_moved : {w : ℕ} {r : Outcome Operand} → LocalOr o → o ≡ Some w → asked ≡ Asked.Into → d < any → w ≢ d →
-        settled (bind (emit (Instruction.Move (reg_of (register_at d)) (reg_of (register_at w))) m) (λ x. ret (Operand.Register (register_at d)))) ≡ r →
-        settled (flat_node t asked d i m) ≡ r
-    unfolding name_dest moved
-    flat_name_moved {w} local h into few other q =
-        let declared = local_word local h in
-        let differs : eqb d w ≡ false = ne_eqb d w (λ e. other (sym e)) in
-        flat_name (rw (into, name_declared (Some (register_at d)) m h, same_word d w few declared.0 declared.1, differs) q)
-
   -- as a condition: the test of its own register
   module _ (E : ℕ → Option Register → Walk Operand) (sense : Bool) (m : Made) where
     pub condition_name_undeclared : (gives : ℕ → ℕ) → o ≡ None → i < word_end →
@@ -208,12 +178,6 @@ module _ (t : Tree) (i : ℕ) (kind : node_word t.nodes i 0 ≡ name_kind) (o : 
         settled (jump_node t E sense (lower_expression free_temp t i) (node t i) m) ≡ r
     unfolding jump_node test lower_materializing moved source materialized bind
     condition_name h q = rw (node_kind t i name_kind kind, name_declared None m h) q
-
--- another register was given
-pub asked_into : (asked : Asked) (w d : ℕ) → not (sameb the_type asked Asked.Into) || eqb w d ≡ false → (asked ≡ Asked.Into) × (w ≢ d)
-asked_into Asked.Operand w d h = absurd (true≢false h)
-asked_into Asked.Register w d h = absurd (true≢false h)
-asked_into Asked.Into w d h = (refl, eqb-false w d h)
 
 -- ---- leaves
 
@@ -323,11 +287,6 @@ module _ (nodes : List ℕ) (left right : ℕ) (leaves : are_leaves nodes left r
       fused_leaves sense own op q = rw (left_source, right_source) q
 
 -- ---- an operator by the words of its node
-
--- its operands are in the arena
-pub operands_inside : {nodes : List ℕ} → Falling nodes → (i left right : ℕ) → InArena nodes i → node_word_of nodes i 0 ≡ binary_kind →
-    left ≡ node_word_of nodes i 2 → right ≡ node_word_of nodes i 3 → InArena nodes left × InArena nodes right
-operands_inside falling i left right h kind at_left at_right = (omega (arith, falling.left i h kind), omega (arith, falling.right i h kind))
 
 module _ (t : Tree) (i : ℕ) (operator : BinaryOp) (left right : ℕ) (kind : node_word t.nodes i 0 ≡ binary_kind) (at_operator : operator ≡ binary_op (node_word t.nodes i 1))
     (at_left : left ≡ node_word t.nodes i 2) (at_right : right ≡ node_word t.nodes i 3) (m : Made) where

@@ -33,7 +33,8 @@ use Rattle.lowering.specs.Trace.{registers_of}
 use Rattle.lowering.proofs.Bound.Lowering.{expression_at}
 use Rattle.lowering.proofs.Running.Steps.{Holds, fine, void, holds_ends}
 use Rattle.lowering.proofs.Destinations.{OnlyAnswer, GivesRegister, Stays, bind_bind, literal_source, binary_any, expression_into, expression_register, node_kind}
-use Rattle.steps.specs.declared.answer.AnswerAndCounts.{AnswerAndCounts}
+use Rattle.steps.specs.declared.counted.Counts.{Counts}
+use Rattle.steps.specs.declared.counted.AnswerAndCounts.{AnswerAndCounts}
 use Rattle.steps.specs.Answers.{none, any, register_at, number_at, literal_word, operand_at, source_at, word_end, refusal_start, is_refusal, value_of, is_inner, refusal_at, names_node, error_at, settled, seen, state_of, WordOrRefusal}
 use Rattle.steps.proofs.Chains.{got, stop, seen_given, seen_stopped, seen_word, seen_refusal, some_allocated, none_allocated}
 use Rattle.steps.proofs.Words.{register_at_temporary, taken_number, source_operand, is_refusal_refusal, is_inner_inner, value_of_inner}
@@ -69,13 +70,9 @@ any_registers t gives m a rs rs' h = seen_stopped t gives (with_registers rs m) 
 
 -- ---- whether a node was flat
 
--- it may be, or is a later kind, by what `is_simple` says
-module _ (k : ℕ) {b : Bool} (told : b ≡ leb k binary_kind) where
-  pub simple_kind : b ≡ true → k ≤ binary_kind
-  simple_kind taken = leb-true k binary_kind (sym told ∙ taken)
-
-  pub not_simple : b ≡ false → binary_kind ≤ k
-  not_simple left = omega (arith, leb-false k binary_kind (sym told ∙ left))
+-- it may be, by what `is_simple` says
+pub simple_kind : (k : ℕ) {b : Bool} → b ≡ leb k binary_kind → b ≡ true → k ≤ binary_kind
+simple_kind k told taken = leb-true k binary_kind (sym told ∙ taken)
 
 -- a node that is left to the walk, by the answer
 module _ (a i : ℕ) (told : a ≡ word_end + i) (small : i < word_end) where
@@ -86,8 +83,8 @@ module _ (a i : ℕ) (told : a ≡ word_end + i) (small : i < word_end) where
   inner_value = rw told (value_of_inner i small)
 
 -- what `lower_flat` left, by the answer
-module _ (nodes : List ℕ) (i : ℕ) (f : AnswerAndCounts) {n p : ℕ} {A : Type 0} (small : i < word_end)
-    (left : is_flat nodes i ≡ false → (f ≡ record { instructions = n; constants = p; answer = word_end + i }) × A) where
+module _ (nodes : List ℕ) (i : ℕ) (f : AnswerAndCounts) {counts : Counts} {A : Type 0} (small : i < word_end)
+    (left : is_flat nodes i ≡ false → (f ≡ record { counts = counts; answer = word_end + i }) × A) where
   pub was_flat : is_inner f.answer ≡ false → is_flat nodes i ≡ true
   was_flat h = go (is_flat nodes i) refl
     where
@@ -105,10 +102,10 @@ module _ (nodes : List ℕ) (i : ℕ) (f : AnswerAndCounts) {n p : ℕ} {A : Typ
 
   -- nothing was done, and the node is an operator or of a later kind
   pub left_over : (is_flat nodes i ≡ true → WordOrRefusal f.answer) → is_inner f.answer ≡ true →
-      (f ≡ record { instructions = n; constants = p; answer = word_end + i }) × A × (value_of f.answer ≡ i) × (binary_kind ≤ node_word_of nodes i 0)
+      (f ≡ record { counts = counts; answer = word_end + i }) × A × (value_of f.answer ≡ i) × (binary_kind ≤ node_word_of nodes i 0)
   left_over word h = go (is_flat nodes i) refl
     where
-      go : (b : Bool) → is_flat nodes i ≡ b → (f ≡ record { instructions = n; constants = p; answer = word_end + i }) × A × (value_of f.answer ≡ i) × (binary_kind ≤ node_word_of nodes i 0)
+      go : (b : Bool) → is_flat nodes i ≡ b → (f ≡ record { counts = counts; answer = word_end + i }) × A × (value_of f.answer ≡ i) × (binary_kind ≤ node_word_of nodes i 0)
       go true e = absurd (false≢true (sym (no_inner f.answer (word e)) ∙ h))
       go false e = let same = left e in (same.0, same.1, inner_value f.answer i (ap (λ x. x.answer) same.0) small, later_kind e)
 
@@ -118,11 +115,16 @@ module _ (nodes : List ℕ) (i : ℕ) (f : AnswerAndCounts) {n p : ℕ} {A : Typ
 abbrev holding : (s set : RegisterSet) → ℕ → ℕ → RegisterSet
 holding s set d a = cond (eqb a d) set s
 
-pub held_taken : {a d : ℕ} (s set : RegisterSet) → a ≡ d → set ≡ holding s set d a
-held_taken {a} {d} s set e = rw (eq-eqb a d e)
+-- the state afterwards
+abbrev pub Held : (s s' : State) → RegisterSet → ℕ → ℕ → Type 0
+Held s s' set d a = (s'.registers ≡ holding s.registers set d a) × (s'.marks ≡ s.marks)
 
-pub held_left : {a d : ℕ} (s set : RegisterSet) → a ≢ d → s ≡ holding s set d a
-held_left {a} {d} s set n = rw (ne_eqb a d n)
+module _ {a d : ℕ} (s : State) {s' : State} (set : RegisterSet) where
+  pub held_taken : s' ≡ record { registers = set; instructions = s.instructions; constants = s.constants; marks = s.marks } → a ≡ d → Held s s' set d a
+  held_taken is e = rw (is, eq-eqb a d e) (refl, refl)
+
+  pub held_left : s' ≡ s → a ≢ d → Held s s' set d a
+  held_left is n = rw (is, ne_eqb a d n) (refl, refl)
 
 -- what was made afterwards: m', with the registers that were held in m and the one taken, if it is the answer
 abbrev keeping : Made → RegisterSet → ℕ → ℕ → Made → Made
@@ -322,29 +324,30 @@ module _ {t : Tree} (checked : Checked t) (i : ℕ) (asked : Asked) (m m' : Made
           in_register t (node t i) None (lower_expression free_temp t i None m) (keeping m after.set d a m') a
           (expression_register t i (no_literal checked i later) None m) (later_operand later (λ e. cc))
 
--- the same, by what `lower_flat` ensures, and by the registers that are held afterwards
-module _ (nodes names code code' pool pool' marks marks' : List ℕ) (i : ℕ) (asked : Asked) (d : ℕ) (s : State) (rs : RegisterSet) (f : AnswerAndCounts) {after : Taken} {A : Type 0} (took : after ≡ taken s.registers)
-    (number : d ≡ number_at after.place) (held : rs ≡ holding s.registers after.set d f.answer) (simple : node_word_of nodes i 0 ≤ binary_kind) (small : i < word_end)
-    (left : is_flat nodes i ≡ false → (f ≡ record { instructions = s.instructions; constants = s.constants; answer = word_end + i }) × A)
+-- the same, by what `lower_flat` ensures, and by the state afterwards
+module _ (nodes names code code' pool pool' marks marks' : List ℕ) (i : ℕ) (asked : Asked) (d : ℕ) (s s' : State) (counts : Counts) (f : AnswerAndCounts) {after : Taken} {A : Type 0}
+    (took : after ≡ taken s.registers) (number : d ≡ number_at after.place) (held : Held s s' after.set d f.answer)
+    (of : counts ≡ record { instructions = s.instructions; constants = s.constants }) (simple : node_word_of nodes i 0 ≤ binary_kind) (small : i < word_end)
+    (left : is_flat nodes i ≡ false → (f ≡ record { counts = counts; answer = word_end + i }) × A)
     (word : is_flat nodes i ≡ true → WordOrRefusal f.answer)
     (tried : (list : List ℕ) (rs : RegisterSet) (n : ℕ) → Checked (tree_of nodes list names) → is_flat nodes i ≡ true →
-    settled (flat_node (tree_of nodes list names) asked d i (made code pool marks (state_of rs s.instructions s.constants n)))
-    ≡ seen (tree_of nodes list names) (operand_at (node_at (words nodes) i)) (made code' pool' marks' (state_of rs f.instructions f.constants n)) f.answer)
+    settled (flat_node (tree_of nodes list names) asked d i (made code pool marks (state_of rs counts n)))
+    ≡ seen (tree_of nodes list names) (operand_at (node_at (words nodes) i)) (made code' pool' marks' (state_of rs f.counts n)) f.answer)
     (list : List ℕ) (checked : Checked (tree_of nodes list names)) (told : is_inner f.answer ≡ false) where
   pub peeked_operand : asked ≡ Asked.Operand →
       settled (lower_expression free_temp (tree_of nodes list names) i None (made code pool marks s))
-      ≡ seen (tree_of nodes list names) (operand_at (node_at (words nodes) i)) (made code' pool' marks' (state_of rs f.instructions f.constants s.marks)) f.answer
+      ≡ seen (tree_of nodes list names) (operand_at (node_at (words nodes) i)) (made code' pool' marks' (state_of s'.registers f.counts s'.marks)) f.answer
   peeked_operand q =
       let flat = was_flat nodes i f small left told in
-      rw held
-      (flat_operand checked i asked (made code pool marks s) (made code' pool' marks' (state_of rs f.instructions f.constants s.marks)) f.answer d took number simple (word flat)
-      (λ rs. tried list rs s.marks checked flat) q)
+      rw (held.0, held.1)
+      (flat_operand checked i asked (made code pool marks s) (made code' pool' marks' (state_of s.registers f.counts s.marks)) f.answer d took number simple (word flat)
+      (λ rs. rw of at (tried list rs s.marks checked flat)) q)
 
   pub peeked_register : asked ≡ Asked.Register →
       settled (lower_materializing (lower_expression free_temp (tree_of nodes list names) i) None (made code pool marks s))
-      ≡ seen (tree_of nodes list names) register_at (made code' pool' marks' (state_of rs f.instructions f.constants s.marks)) f.answer
+      ≡ seen (tree_of nodes list names) register_at (made code' pool' marks' (state_of s'.registers f.counts s'.marks)) f.answer
   peeked_register q =
       let flat = was_flat nodes i f small left told in
-      rw held
-      (flat_register checked i asked (made code pool marks s) (made code' pool' marks' (state_of rs f.instructions f.constants s.marks)) f.answer d took number simple (word flat)
-      (λ rs. tried list rs s.marks checked flat) q)
+      rw (held.0, held.1)
+      (flat_register checked i asked (made code pool marks s) (made code' pool' marks' (state_of s.registers f.counts s.marks)) f.answer d took number simple (word flat)
+      (λ rs. rw of at (tried list rs s.marks checked flat)) q)

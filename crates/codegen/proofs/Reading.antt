@@ -1,22 +1,28 @@
 -- What is read of a node: what it is by the number of its kind, the node that a block comes to, and the register of a name. Assumes nothing.
 use Rattle.std.specs.Prelude.{Option, Some, None, Result, Ok, Err}
+use Rattle.std.proofs.lemmas.Bool.{not-false}
 use Prim.Native.Nat.{ℕ, zero, suc, ◌+◌, ◌%◌, ◌<◌, ◌≤◌}
 use native.Mathlib.Omega.{arith}
 use native.Mathlib.Decide.{dec_lt, ℕ_discrete}
 use mathlib.Core.Path.{◌≡◌, refl, sym, ◌∙◌, ap}
 use mathlib.Core.Logic.{◌≢◌}
-use mathlib.Core.Bool.{Bool, true, false, cond}
+use mathlib.Core.Bool.{Bool, true, false, cond, not}
 use mathlib.Core.List.{List}
 use lib.Dec.{ltb, eqb}
 use lib.ListN.{length, get_or}
-use borrow.Author.Tests.{lt-ltb, le-ltb, leb-true, eq-eqb, ne_eqb}
+use denote.Enum.Bare.{sameb}
+use borrow.Author.Tests.{lt-ltb, le-ltb, leb-true, eqb-true, eqb-false, eq-eqb, ne_eqb}
 use Rattle.diagnostics.specs.declared.Refusal.{Refusal}
 use Rattle.environment.specs.declared.Register.{Register}
 use Rattle.environment.specs.Environment.{lookup}
 use Rattle.environment.specs.Laws.{Last}
 use Rattle.environment.proofs.Laws.{lookup_found, lookup_refused}
 use Rattle.syntax.specs.declared.ast.Node.{Node}
-use Rattle.syntax.specs.Ast.{absent, node_kinds, node_word, node_at}
+use Rattle.syntax.specs.declared.kind.Kind.{Kind}
+use Rattle.syntax.specs.contracts.kind.Kind.{the_type}
+use Rattle.syntax.specs.Kinds.{kind_number}
+use Rattle.syntax.specs.Ast.{absent, node_of, node_kinds, node_word, node_at}
+use Rattle.syntax.proofs.KindWords.{same_number, differs_number}
 use Rattle.runtime.specs.declared.instruction.Instruction.{Instruction}
 use Rattle.runtime.specs.declared.operand.Operand.{Operand}
 use Rattle.runtime.specs.Operands.{reg_of}
@@ -34,6 +40,39 @@ use Rattle.codegen.specs.Ready.{InArena, node_word_of}
 use Rattle.codegen.specs.Kinds.{name_kind, binary_kind, block_kind, key_operand, is_compared}
 use Rattle.codegen.specs.Flat.{Falling, found_at, LocalOr}
 use Rattle.codegen.proofs.Walk.{ended}
+
+-- ---- a kind, and a node that may be absent, by what is asked of them
+
+-- w is the word of the kind k, and told what the program asked
+module _ (k K : Kind) {w : ℕ} {b : Bool} (read : kind_number k ≡ w) where
+  module _ (told : b ≡ sameb the_type k K) where
+    pub kind_is : b ≡ true → w ≡ kind_number K
+    kind_is h = eqb-true w (kind_number K) (sym (same_number k K read) ∙ (sym told ∙ h))
+
+    pub kind_is_not : b ≡ false → w ≢ kind_number K
+    kind_is_not h = eqb-false w (kind_number K) (sym (same_number k K read) ∙ (sym told ∙ h))
+
+  -- it asked whether it is another
+  pub kind_same : b ≡ not (sameb the_type k K) → b ≡ false → w ≡ kind_number K
+  kind_same told h = eqb-true w (kind_number K) (not-false _ (sym (differs_number k K read) ∙ (sym told ∙ h)))
+
+-- w is the word that is read
+module _ {w : ℕ} {o : Option ℕ} (read : o ≡ node_of w) where
+  pub node_there : {n : ℕ} → o ≡ Some n → (n ≡ w) × (w ≢ absent)
+  unfolding node_of
+  node_there {n} h = go (ℕ_discrete w absent)
+    where
+      go : Dec (w ≡ absent) → (n ≡ w) × (w ≢ absent)
+      go (yes e) = let never : ◌≡◌ {A = Option ℕ} (Some n) None = sym h ∙ (read ∙ rw (eq-eqb w absent e)) in cc
+      go (no e) = let same : ◌≡◌ {A = Option ℕ} (Some n) (Some w) = sym h ∙ (read ∙ rw (ne_eqb w absent e)) in (cc, e)
+
+  pub node_absent : o ≡ None → w ≡ absent
+  unfolding node_of
+  node_absent h = go (ℕ_discrete w absent)
+    where
+      go : Dec (w ≡ absent) → w ≡ absent
+      go (yes e) = e
+      go (no e) = let never : ◌≡◌ {A = Option ℕ} None (Some w) = sym h ∙ (read ∙ rw (ne_eqb w absent e)) in cc
 
 -- ---- a node by the number of its kind
 
@@ -79,17 +118,17 @@ Comes nodes node n =
     lower_materializing (lower_expression free_temp (tree_of nodes list names) node) (Some d) m
     ≡ lower_materializing (lower_expression free_temp (tree_of nodes list names) n) (Some d) m)
 
-module _ {nodes : List ℕ} (falling : Falling nodes) {node n kind tail : ℕ} (comes : Comes nodes node n)
-    (kind_read : kind ≡ node_word_of nodes n 0) (block : kind ≡ block_kind) (tail_read : tail ≡ node_word_of nodes n 1) (some : tail ≢ absent) where
+module _ {nodes : List ℕ} (falling : Falling nodes) {node n tail : ℕ} (comes : Comes nodes node n)
+    (block : node_word_of nodes n 0 ≡ block_kind) (tail_there : (tail ≡ node_word_of nodes n 1) × (node_word_of nodes n 1 ≢ absent)) where
   pub tail_below : tail < n
-  tail_below = rw tail_read (falling.tail n comes.0.0 (sym kind_read ∙ block) (rw tail_read at some))
+  tail_below = rw tail_there.0 (falling.tail n comes.0.0 block tail_there.1)
 
   pub tail_comes : Comes nodes node tail
   tail_comes = (
     (omega (arith, tail_below), omega (arith, tail_below)),
     (λ list names d m checked.
         comes.1 list names d m checked
-        ∙ block_into checked n tail (rw (← tail_read) at (node_kind (tree_of nodes list names) n block_kind (sym kind_read ∙ block))) some d m),
+        ∙ block_into checked n tail (rw (← tail_there.0) at (node_kind (tree_of nodes list names) n block_kind block)) (rw (← tail_there.0) at tail_there.1) d m),
   )
 
 -- ---- a name
@@ -160,7 +199,7 @@ module _ (t : Tree) (i : ℕ) (m : Made) where
 
     module _ {d : ℕ} (few : d < any) where
       -- its own was asked for
-      pub name_own : (n : Node) → d ≡ w → settled (lower_name t i (found_at o) (Some (register_at d)) m) ≡ seen t (operand_at n) m w
+      pub name_own : (n : Node) → d ≡ w → settled (lower_name t i (found_at o) (Some (register_at d)) m) ≡ seen t (operand_at n) m d
       unfolding lower_name found_at moved settled
       name_own n own =
           rw (declared, same_word d w few (local_word local declared).0 (local_word local declared).1, eq-eqb d w own, own)

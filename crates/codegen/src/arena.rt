@@ -3,6 +3,7 @@ ghost use Rattle.std.specs.Prelude.{◌≡◌, cond, ◌<◌, ◌≤◌, eqb, le
 ghost use Rattle.words.specs.Words.{words};
 ghost use Rattle.environment.specs.Environment.{lookup};
 ghost use Rattle.syntax.specs.Ast.{node_width, node_at};
+ghost use Rattle.syntax.specs.Kinds.{kind_number};
 ghost use Rattle.lowering.specs.Literals.{literal};
 ghost use Rattle.steps.specs.Answers.{literal_word};
 ghost use Rattle.lowering.specs.Tree.{tree_of};
@@ -16,7 +17,7 @@ use runtime::operand::Operand;
 use runtime::value::number;
 use steps::answer::{LITERAL, local};
 use syntax::ast::NODE_WORDS;
-use syntax::kind;
+use syntax::kind::Kind;
 use words::word;
 
 const NODE_BYTES: usize = 4 * NODE_WORDS;
@@ -51,23 +52,35 @@ impl Arena<'_> {
         word(&self.nodes[at..end], k)
     }
 
-    // The operand of a literal; nil for any other node.
+    // The kind of a node of the arena.
+    pub(crate) fn kind(&self, node: u32) -> Kind
+        requires { InArena self.now.nodes.now node }
+        ensures { kind_number result ≡ node_word_of self.now.nodes.now node 0 }
+    {
+        match Kind::of(self.node_word(node, 0)) {
+            Some(kind) => kind,
+            None => unreachable!(),
+        }
+    }
+
+    // The operand of a literal; nil for any other node. A chain of tests: as a `match` on the kind it takes a fifth more time.
     pub(crate) fn literal(&self, node: u32) -> Operand
         requires { InArena self.now.nodes.now node }
         ensures { result ≡ literal (node_at (words self.now.nodes.now) node) }
     {
-        let kind = self.node_word(node, 0);
+        let kind = self.kind(node);
         let a = self.node_word(node, 1);
         let b = self.node_word(node, 2);
-        match kind {
-            kind::NUMBER => {
-                let x = number(a, b);
-                Operand::Number(x)
-            }
-            kind::STRING => Operand::String(a),
-            kind::BOOLEAN => Operand::Boolean(a != 0),
-            _ => Operand::Nil,
+        if kind == Kind::Number {
+            return Operand::Number(number(a, b));
         }
+        if kind == Kind::String {
+            return Operand::String(a);
+        }
+        if kind == Kind::Boolean {
+            return Operand::Boolean(a != 0);
+        }
+        Operand::Nil
     }
 
     // The literal that one of two sources is; nil if none is.

@@ -17,7 +17,7 @@ ghost use Rattle.lowering.specs.Operators.{comparison};
 ghost use Rattle.lowering.specs.Literals.{literal};
 ghost use Rattle.lowering.specs.Steps.{free_temp, load_constant};
 ghost use Rattle.lowering.specs.Lower.{binary_sources, fused_sources, name_of, lower_entry, jump_node, lower_expression, lower_materializing};
-ghost use Rattle.steps.specs.Answers.{register_at, any, literal_word, operand_at, source_at, place_at, settled, seen, state_of, is_inner, value_of, word_end, DestOrRefusal, WordOrRefusal};
+ghost use Rattle.steps.specs.Answers.{register_at, dest_of, Aimed, any, literal_word, operand_at, source_at, place_at, settled, seen, state_of, is_inner, value_of, word_end, DestOrRefusal, WordOrRefusal};
 ghost use Rattle.codegen.specs.Walks.{Kept, made_of, Untouched, NothingDone};
 ghost use Rattle.codegen.specs.Ready.{InArena, node_word_of};
 ghost use Rattle.codegen.specs.Kinds.{name_kind, binary_kind, key_operand, set_opcode};
@@ -28,15 +28,15 @@ use crate::arena::{Arena, Buffers};
 use diagnostics::Refusal;
 use lowering::State;
 use operators::{is_comparison, jump_if};
-use runtime::function::{emit_instruction, store_constant};
 use runtime::opcode::Opcode;
 use runtime::operand::Operand;
 use steps::answer::{
-    AnswerAndCounts, AnswerAndState, LITERAL, NONE, inner, number_at, refusal_at, reg_of,
+    AnswerAndState, LITERAL, NONE, inner, is_refusal, number_at, reg_of, value_of,
 };
+use steps::counted::{AnswerAndCounts, Counts, constant_into, emit, store};
 use steps::sources::{binary_sources, field_of, fused_sources};
-use syntax::ast::ABSENT;
-use syntax::kind;
+use syntax::ast::node_of;
+use syntax::kind::Kind;
 use syntax::ops::BinaryOp;
 
 // What is asked of a flat node: its operand (a literal stays one), its value in a register, or its value in the register given.
@@ -49,7 +49,7 @@ pub(crate) enum Asked {
 
 impl Arena<'_> {
     // The node that a block comes to, where the destination is given: its tail's tail, and so on. A `while`: it follows the tails, and counts nothing.
-    pub(crate) fn tail_of(&self, node: u32) -> u32
+    fn tail_of(&self, node: u32) -> u32
         requires { InArena self.now.nodes.now node }
         ensures inside { InArena self.now.nodes.now result × (result ≤ node) }
         ensures same { (list names : List ℕ) (d : Register) (m : Made) → Checked (tree_of self.now.nodes.now list names) →
@@ -57,24 +57,23 @@ impl Arena<'_> {
             ≡ lower_materializing (lower_expression free_temp (tree_of self.now.nodes.now list names) result) (Some d) m }
     {
         let mut n = node;
-        while self.node_word(n, 0) == kind::BLOCK {
-            let tail = self.node_word(n, 1);
-            if tail == ABSENT {
+        while self.kind(n) == Kind::Block {
+            let Some(tail) = node_of(self.node_word(n, 1)) else {
                 return n;
-            }
+            };
             n = tail;
         }
         n
     }
 
     // A leaf with no destination: LITERAL, or the register of a name, if it is declared.
-    pub(crate) fn leaf_operand(&self, node: u32) -> Option<u32>
+    fn leaf_operand(&self, node: u32) -> Option<u32>
         requires { InArena self.now.nodes.now node }
         ensures name { node_word_of self.now.nodes.now node 0 ≡ name_kind →
             (found_at result ≡ lookup (words self.now.names.now) (length (words self.now.names.now)) (node_word_of self.now.nodes.now node 1)) × LocalOr result }
         ensures literal { node_word_of self.now.nodes.now node 0 ≢ name_kind → result ≡ Some literal_word }
     {
-        if self.node_word(node, 0) == kind::IDENTIFIER {
+        if self.kind(node) == Kind::Identifier {
             return self.find(self.node_word(node, 1));
         }
         Some(LITERAL)
@@ -82,42 +81,31 @@ impl Arena<'_> {
 
     // A literal in d, if there is a register: pool, LoadConst.
     #[tactic(auto, using(steps::proofs::Words::refusal_start_lem))]
-    pub(crate) fn literal_into(
+    fn literal_into(
         &self,
         buffers: &mut Buffers,
-        instructions: u32,
-        pooled: u32,
+        counts: Counts,
         node: u32,
         d: u32,
     ) -> AnswerAndCounts
         requires { InArena self.now.nodes.now node }
         ensures step { (t : Tree) (rs : RegisterSet) (n : ℕ) →
             settled (needing d (load_constant (literal (node_at (words self.now.nodes.now) node)) (Some (register_at d)))
-            (made_of buffers.old (state_of rs instructions pooled n)))
-            ≡ seen t register_at (made_of buffers.new (state_of rs result.instructions result.constants n)) result.answer }
+            (made_of buffers.old (state_of rs counts n)))
+            ≡ seen t register_at (made_of buffers.new (state_of rs result.counts n)) result.answer }
         ensures word { DestOrRefusal d result.answer }
         ensures kept { Kept buffers.old buffers.new }
     {
         if d == NONE {
-            return left_alone(instructions, pooled, refusal_at(Refusal::Registers, 0));
+            return counts.refused(Refusal::Registers, 0);
         }
-        let stored = store_constant(buffers.constants, pooled, self.literal(node));
-        let Ok(k) = stored.place else {
-            return left_alone(instructions, pooled, refusal_at(Refusal::Constants, 0));
-        };
-        let count = stored.count;
-        let emitted = emit_instruction(
+        constant_into(
             buffers.code,
-            instructions,
-            Opcode::LoadConst,
-            reg_of(d),
-            k,
-            0,
-        );
-        let Ok(_) = emitted.place else {
-            return left_alone(instructions, count, refusal_at(Refusal::Code, 0));
-        };
-        left_alone(emitted.count, count, d as u64)
+            buffers.constants,
+            counts,
+            self.literal(node),
+            d,
+        )
     }
 
     // A name: its own register, or a Move if another one is given.
@@ -125,93 +113,90 @@ impl Arena<'_> {
     pub(crate) fn name_into(
         &self,
         buffers: &mut Buffers,
-        instructions: u32,
-        pooled: u32,
+        counts: Counts,
         node: u32,
-        asked: Asked,
-        d: u32,
+        dest: Option<u32>,
     ) -> AnswerAndCounts
-        requires { InArena self.now.nodes.now node × ((node_word_of self.now.nodes.now node 0 ≡ name_kind) × (asked ≡ Asked.Into → d < any)) }
+        requires { InArena self.now.nodes.now node × ((node_word_of self.now.nodes.now node 0 ≡ name_kind) × Aimed dest) }
         ensures step { (list : List ℕ) (rs : RegisterSet) (n : ℕ) →
-            settled (flat_node (tree_of self.now.nodes.now list self.now.names.now) asked d node
-            (made_of buffers.old (state_of rs instructions pooled n)))
-            ≡ seen (tree_of self.now.nodes.now list self.now.names.now) (operand_at (node_at (words self.now.nodes.now) node)) (made_of buffers.new (state_of rs result.instructions result.constants n)) result.answer }
+            settled (lower_expression free_temp (tree_of self.now.nodes.now list self.now.names.now) node (dest_of dest)
+            (made_of buffers.old (state_of rs counts n)))
+            ≡ seen (tree_of self.now.nodes.now list self.now.names.now) (operand_at (node_at (words self.now.nodes.now) node)) (made_of buffers.new (state_of rs result.counts n)) result.answer }
         ensures word { WordOrRefusal result.answer }
         ensures kept { Kept buffers.old buffers.new }
     {
         let Some(register) = self.find(self.node_word(node, 1)) else {
-            return left_alone(instructions, pooled, refusal_at(Refusal::Undeclared, node));
+            return counts.refused(Refusal::Undeclared, node);
         };
-        if (asked != Asked::Into) | (register == d) {
-            return left_alone(instructions, pooled, register as u64);
+        let Some(d) = dest else {
+            return counts.answered(register);
+        };
+        if d == register {
+            return counts.answered(d);
         }
-        let emitted = emit_instruction(
+        let e = emit(
             buffers.code,
-            instructions,
+            counts,
             Opcode::Move,
             reg_of(d),
             reg_of(register),
             0,
         );
-        let Ok(_) = emitted.place else {
-            return left_alone(instructions, pooled, refusal_at(Refusal::Code, 0));
-        };
-        left_alone(emitted.count, pooled, d as u64)
+        if is_refusal(e.answer) {
+            return e;
+        }
+        e.counts.answered(d)
     }
 
     // Whether two nodes are literals or names, and not both literals.
     #[tactic(auto, unfolding(crate::specs::Flat::are_leaves))]
-    pub(crate) fn are_leaves(&self, left: u32, right: u32) -> bool
+    fn are_leaves(&self, left: u32, right: u32) -> bool
         requires { InArena self.now.nodes.now left × InArena self.now.nodes.now right }
         ensures { result ≡ are_leaves self.now.nodes.now left right }
     {
-        let a = self.node_word(left, 0);
-        let b = self.node_word(right, 0);
-        (a <= kind::IDENTIFIER)
-            & (b <= kind::IDENTIFIER)
-            & ((a == kind::IDENTIFIER) | (b == kind::IDENTIFIER))
+        let a = self.kind(left);
+        let b = self.kind(right);
+        a.is_leaf() & b.is_leaf() & ((a == Kind::Identifier) | (b == Kind::Identifier))
     }
 
     // An operator on two leaves, with its value in d, if there is a register.
     #[tactic(auto, using(steps::proofs::Words::refusal_start_lem))]
-    pub(crate) fn binary_into(
+    fn binary_into(
         &self,
         buffers: &mut Buffers,
-        instructions: u32,
-        pooled: u32,
+        counts: Counts,
         node: u32,
         d: u32,
     ) -> AnswerAndCounts
         requires { InArena self.now.nodes.now node × ((node_word_of self.now.nodes.now node 0 ≡ binary_kind) × Given d) }
         ensures step { (list : List ℕ) (rs : RegisterSet) (n : ℕ) → Checked (tree_of self.now.nodes.now list self.now.names.now) → are_leaves self.now.nodes.now (node_word_of self.now.nodes.now node 2) (node_word_of self.now.nodes.now node 3) ≡ true →
-            settled (needing d (lower_expression free_temp (tree_of self.now.nodes.now list self.now.names.now) node (Some (register_at d))) (made_of buffers.old (state_of rs instructions pooled n)))
-            ≡ seen (tree_of self.now.nodes.now list self.now.names.now) (operand_at (node_at (words self.now.nodes.now) node)) (made_of buffers.new (state_of rs result.instructions result.constants n)) result.answer }
+            settled (needing d (lower_expression free_temp (tree_of self.now.nodes.now list self.now.names.now) node (Some (register_at d))) (made_of buffers.old (state_of rs counts n)))
+            ≡ seen (tree_of self.now.nodes.now list self.now.names.now) (operand_at (node_at (words self.now.nodes.now) node)) (made_of buffers.new (state_of rs result.counts n)) result.answer }
         ensures inner { are_leaves self.now.nodes.now (node_word_of self.now.nodes.now node 2) (node_word_of self.now.nodes.now node 3) ≡ false →
-            (result ≡ record { instructions = instructions; constants = pooled; answer = word_end + node }) × Untouched buffers.old buffers.new }
+            (result ≡ record { counts = counts; answer = word_end + node }) × Untouched buffers.old buffers.new }
         ensures word { are_leaves self.now.nodes.now (node_word_of self.now.nodes.now node 2) (node_word_of self.now.nodes.now node 3) ≡ true → DestOrRefusal d result.answer }
         ensures kept { Kept buffers.old buffers.new }
     {
         let left = self.node_word(node, 2);
         let right = self.node_word(node, 3);
         if !self.are_leaves(left, right) {
-            return left_alone(instructions, pooled, inner(node));
+            return counts.left(node);
         }
         if d == NONE {
-            return left_alone(instructions, pooled, refusal_at(Refusal::Registers, 0));
+            return counts.refused(Refusal::Registers, 0);
         }
+        let operator = BinaryOp::of(self.node_word(node, 1));
         let Some(src1) = self.leaf_operand(left) else {
-            return left_alone(instructions, pooled, refusal_at(Refusal::Undeclared, left));
+            return counts.refused(Refusal::Undeclared, left);
         };
         let Some(src2) = self.leaf_operand(right) else {
-            return left_alone(instructions, pooled, refusal_at(Refusal::Undeclared, right));
+            return counts.refused(Refusal::Undeclared, right);
         };
-        let operator = BinaryOp::of(self.node_word(node, 1));
         let constant = self.literal_of(left, right, src1, src2);
         binary_sources(
             buffers.code,
             buffers.constants,
-            instructions,
-            pooled,
+            counts,
             operator,
             src1,
             src2,
@@ -222,46 +207,46 @@ impl Arena<'_> {
 
     // A flat node, with its value in d if it needs a register. For any other node it is left to the walk, and nothing is done.
     #[tactic(auto, using(crate::proofs::FlatNodes::flat_leaf, crate::proofs::FlatNodes::flat_binary, crate::proofs::FlatNodes::flat_other, crate::proofs::FlatNodes::answer_word))]
-    pub(crate) fn lower_flat(
+    fn lower_flat(
         &self,
         buffers: &mut Buffers,
-        instructions: u32,
-        pooled: u32,
+        counts: Counts,
         node: u32,
         asked: Asked,
         d: u32,
     ) -> AnswerAndCounts
         requires { InArena self.now.nodes.now node × (Given d × (asked ≡ Asked.Into → d < any)) }
         ensures step { (list : List ℕ) (rs : RegisterSet) (n : ℕ) → Checked (tree_of self.now.nodes.now list self.now.names.now) → is_flat self.now.nodes.now node ≡ true →
-            settled (flat_node (tree_of self.now.nodes.now list self.now.names.now) asked d node (made_of buffers.old (state_of rs instructions pooled n)))
-            ≡ seen (tree_of self.now.nodes.now list self.now.names.now) (operand_at (node_at (words self.now.nodes.now) node)) (made_of buffers.new (state_of rs result.instructions result.constants n)) result.answer }
+            settled (flat_node (tree_of self.now.nodes.now list self.now.names.now) asked d node (made_of buffers.old (state_of rs counts n)))
+            ≡ seen (tree_of self.now.nodes.now list self.now.names.now) (operand_at (node_at (words self.now.nodes.now) node)) (made_of buffers.new (state_of rs result.counts n)) result.answer }
         ensures inner { is_flat self.now.nodes.now node ≡ false →
-            (result ≡ record { instructions = instructions; constants = pooled; answer = word_end + node }) × Untouched buffers.old buffers.new }
+            (result ≡ record { counts = counts; answer = word_end + node }) × Untouched buffers.old buffers.new }
         ensures word { is_flat self.now.nodes.now node ≡ true → WordOrRefusal result.answer }
         ensures kept { Kept buffers.old buffers.new }
     {
-        let kind = self.node_word(node, 0);
-        if kind < kind::IDENTIFIER {
+        let kind = self.kind(node);
+        if kind.is_literal() {
             if asked == Asked::Operand {
-                return left_alone(instructions, pooled, LITERAL as u64);
+                return counts.answered(LITERAL);
             }
-            return self.literal_into(buffers, instructions, pooled, node, d);
+            return self.literal_into(buffers, counts, node, d);
         }
-        if kind == kind::IDENTIFIER {
-            return self.name_into(buffers, instructions, pooled, node, asked, d);
+        if kind == Kind::Identifier {
+            let dest = if asked == Asked::Into { Some(d) } else { None };
+            return self.name_into(buffers, counts, node, dest);
         }
-        if kind != kind::BINARY {
-            return left_alone(instructions, pooled, inner(node));
+        if kind != Kind::Binary {
+            return counts.left(node);
         }
-        self.binary_into(buffers, instructions, pooled, node, d)
+        self.binary_into(buffers, counts, node, d)
     }
 
     // Whether a node may be flat: a quick no for most.
-    pub(crate) fn is_simple(&self, node: u32) -> bool
+    fn is_simple(&self, node: u32) -> bool
         requires { InArena self.now.nodes.now node }
         ensures { result ≡ leb (node_word_of self.now.nodes.now node 0) binary_kind }
     {
-        self.node_word(node, 0) <= kind::BINARY
+        self.kind(node) <= Kind::Binary
     }
 
     // A flat child with no destination: its operand, or its value in a register, which is taken if it needs one. Any other child is left to the walk, and
@@ -284,7 +269,6 @@ impl Arena<'_> {
         ensures kept { Kept buffers.old buffers.new }
     {
         let mut s = state;
-        let mut answer = inner(node);
         if self.is_simple(node) {
             let registers = s.registers;
             let taken = registers.take();
@@ -292,15 +276,16 @@ impl Arena<'_> {
             let place = taken.place;
             // NONE where no register is free. As an Option it was slower: the flat nodes then took a few per cent more time.
             let register = number_at(place);
-            let f = self.lower_flat(buffers, s.instructions, s.constants, node, asked, register);
+            let f = self.lower_flat(buffers, Counts::of(s), node, asked, register);
             if f.answer == (register as u64) {
                 s.registers = set;
             }
-            s.instructions = f.instructions;
-            s.constants = f.constants;
-            answer = f.answer;
+            return f.on(s);
         }
-        AnswerAndState { state: s, answer }
+        AnswerAndState {
+            state: s,
+            answer: inner(node),
+        }
     }
 
     // A flat child in d; a block is its tail. Any other child is left to the walk, by the node that it comes to.
@@ -321,92 +306,77 @@ impl Arena<'_> {
             ≡ lower_materializing (lower_expression free_temp (tree_of self.now.nodes.now list self.now.names.now) (value_of result.answer)) (Some e) m }
         ensures kept { Kept buffers.old buffers.new }
     {
-        let mut s = state;
         let tail = self.tail_of(node);
-        let mut answer = inner(tail);
         if self.is_simple(tail) {
-            let f = self.lower_flat(buffers, s.instructions, s.constants, tail, Asked::Into, d);
-            s.instructions = f.instructions;
-            s.constants = f.constants;
-            answer = f.answer;
+            let f = self.lower_flat(buffers, Counts::of(state), tail, Asked::Into, d);
+            return f.on(state);
         }
-        AnswerAndState { state: s, answer }
+        AnswerAndState {
+            state,
+            answer: inner(tail),
+        }
     }
 
     // A name as a condition: the test of its own register. The jump's place is the answer.
     #[tactic(auto, using(steps::proofs::Words::refusal_start_lem))]
-    pub(crate) fn name_tested(
+    fn name_tested(
         &self,
         buffers: &mut Buffers,
-        instructions: u32,
-        pooled: u32,
+        counts: Counts,
         node: u32,
         sense: bool,
     ) -> AnswerAndCounts
         requires { InArena self.now.nodes.now node × (node_word_of self.now.nodes.now node 0 ≡ name_kind) }
         ensures step { (list : List ℕ) (rs : RegisterSet) (n : ℕ) →
             settled (jump_node (tree_of self.now.nodes.now list self.now.names.now) (lower_expression free_temp (tree_of self.now.nodes.now list self.now.names.now)) sense (lower_expression free_temp (tree_of self.now.nodes.now list self.now.names.now) node) (node_at (words self.now.nodes.now) node)
-            (made_of buffers.old (state_of rs instructions pooled n)))
-            ≡ seen (tree_of self.now.nodes.now list self.now.names.now) place_at (made_of buffers.new (state_of rs result.instructions result.constants n)) result.answer }
+            (made_of buffers.old (state_of rs counts n)))
+            ≡ seen (tree_of self.now.nodes.now list self.now.names.now) place_at (made_of buffers.new (state_of rs result.counts n)) result.answer }
         ensures word { WordOrRefusal result.answer }
         ensures kept { Kept buffers.old buffers.new }
     {
         let Some(register) = self.find(self.node_word(node, 1)) else {
-            return left_alone(instructions, pooled, refusal_at(Refusal::Undeclared, node));
+            return counts.refused(Refusal::Undeclared, node);
         };
-        let emitted = emit_instruction(
-            buffers.code,
-            instructions,
-            jump_if(sense),
-            reg_of(register),
-            0,
-            0,
-        );
-        let Ok(n) = emitted.place else {
-            return left_alone(instructions, pooled, refusal_at(Refusal::Code, 0));
-        };
-        left_alone(emitted.count, pooled, n as u64)
+        emit(buffers.code, counts, jump_if(sense), reg_of(register), 0, 0)
     }
 
     // A comparison of two leaves as a condition: the fused jump. Any other operator is left to the walk.
     #[tactic(auto, using(steps::proofs::Words::is_inner_refusal, steps::proofs::Words::is_inner_inner, crate::proofs::FlatNodes::no_inner))]
-    pub(crate) fn compared_leaves(
+    fn compared_leaves(
         &self,
         buffers: &mut Buffers,
-        instructions: u32,
-        pooled: u32,
+        counts: Counts,
         node: u32,
         sense: bool,
     ) -> AnswerAndCounts
         requires { InArena self.now.nodes.now node × (node_word_of self.now.nodes.now node 0 ≡ binary_kind) }
         ensures step { (list : List ℕ) (rs : RegisterSet) (n : ℕ) → Checked (tree_of self.now.nodes.now list self.now.names.now) → is_inner result.answer ≡ false →
-            settled (jump_node (tree_of self.now.nodes.now list self.now.names.now) (lower_expression free_temp (tree_of self.now.nodes.now list self.now.names.now)) sense (lower_expression free_temp (tree_of self.now.nodes.now list self.now.names.now) node) (node_at (words self.now.nodes.now) node) (made_of buffers.old (state_of rs instructions pooled n)))
-            ≡ seen (tree_of self.now.nodes.now list self.now.names.now) place_at (made_of buffers.new (state_of rs result.instructions result.constants n)) result.answer }
+            settled (jump_node (tree_of self.now.nodes.now list self.now.names.now) (lower_expression free_temp (tree_of self.now.nodes.now list self.now.names.now)) sense (lower_expression free_temp (tree_of self.now.nodes.now list self.now.names.now) node) (node_at (words self.now.nodes.now) node) (made_of buffers.old (state_of rs counts n)))
+            ≡ seen (tree_of self.now.nodes.now list self.now.names.now) place_at (made_of buffers.new (state_of rs result.counts n)) result.answer }
         ensures inner { is_inner result.answer ≡ true →
-            (result ≡ record { instructions = instructions; constants = pooled; answer = word_end + node }) × Untouched buffers.old buffers.new }
+            (result ≡ record { counts = counts; answer = word_end + node }) × Untouched buffers.old buffers.new }
         ensures kept { Kept buffers.old buffers.new }
     {
         let operator = BinaryOp::of(self.node_word(node, 1));
         let left = self.node_word(node, 2);
         let right = self.node_word(node, 3);
         if !is_comparison(operator) {
-            return left_alone(instructions, pooled, inner(node));
+            return counts.left(node);
         }
         if !self.are_leaves(left, right) {
-            return left_alone(instructions, pooled, inner(node));
+            return counts.left(node);
         }
         let Some(src1) = self.leaf_operand(left) else {
-            return left_alone(instructions, pooled, refusal_at(Refusal::Undeclared, left));
+            return counts.refused(Refusal::Undeclared, left);
         };
         let Some(src2) = self.leaf_operand(right) else {
-            return left_alone(instructions, pooled, refusal_at(Refusal::Undeclared, right));
+            return counts.refused(Refusal::Undeclared, right);
         };
         let constant = self.literal_of(left, right, src1, src2);
         fused_sources(
             buffers.code,
             buffers.constants,
-            instructions,
-            pooled,
+            counts,
             sense,
             operator,
             src1,
@@ -417,30 +387,29 @@ impl Arena<'_> {
 
     // A name, or a comparison of leaves, on two counts.
     #[tactic(auto, using(steps::proofs::Words::is_inner_inner, crate::proofs::FlatNodes::no_inner))]
-    pub(crate) fn flat_jump(
+    fn flat_jump(
         &self,
         buffers: &mut Buffers,
-        instructions: u32,
-        pooled: u32,
+        counts: Counts,
         node: u32,
         sense: bool,
     ) -> AnswerAndCounts
         requires { InArena self.now.nodes.now node }
         ensures step { (list : List ℕ) (rs : RegisterSet) (n : ℕ) → Checked (tree_of self.now.nodes.now list self.now.names.now) → is_inner result.answer ≡ false →
-            settled (jump_node (tree_of self.now.nodes.now list self.now.names.now) (lower_expression free_temp (tree_of self.now.nodes.now list self.now.names.now)) sense (lower_expression free_temp (tree_of self.now.nodes.now list self.now.names.now) node) (node_at (words self.now.nodes.now) node) (made_of buffers.old (state_of rs instructions pooled n)))
-            ≡ seen (tree_of self.now.nodes.now list self.now.names.now) place_at (made_of buffers.new (state_of rs result.instructions result.constants n)) result.answer }
+            settled (jump_node (tree_of self.now.nodes.now list self.now.names.now) (lower_expression free_temp (tree_of self.now.nodes.now list self.now.names.now)) sense (lower_expression free_temp (tree_of self.now.nodes.now list self.now.names.now) node) (node_at (words self.now.nodes.now) node) (made_of buffers.old (state_of rs counts n)))
+            ≡ seen (tree_of self.now.nodes.now list self.now.names.now) place_at (made_of buffers.new (state_of rs result.counts n)) result.answer }
         ensures inner { is_inner result.answer ≡ true →
-            (result ≡ record { instructions = instructions; constants = pooled; answer = word_end + node }) × Untouched buffers.old buffers.new }
+            (result ≡ record { counts = counts; answer = word_end + node }) × Untouched buffers.old buffers.new }
         ensures kept { Kept buffers.old buffers.new }
     {
-        let kind = self.node_word(node, 0);
-        if kind == kind::IDENTIFIER {
-            return self.name_tested(buffers, instructions, pooled, node, sense);
+        let kind = self.kind(node);
+        if kind == Kind::Identifier {
+            return self.name_tested(buffers, counts, node, sense);
         }
-        if kind != kind::BINARY {
-            return left_alone(instructions, pooled, inner(node));
+        if kind != Kind::Binary {
+            return counts.left(node);
         }
-        self.compared_leaves(buffers, instructions, pooled, node, sense)
+        self.compared_leaves(buffers, counts, node, sense)
     }
 
     // A name, or a comparison of leaves, as a condition: the place of the jump that is taken where it gives `sense`. Any other node is left to the walk.
@@ -458,14 +427,8 @@ impl Arena<'_> {
         ensures inner { is_inner result.answer ≡ true → NothingDone buffers.old buffers.new state result }
         ensures kept { Kept buffers.old buffers.new }
     {
-        let mut s = state;
-        let f = self.flat_jump(buffers, s.instructions, s.constants, node, sense);
-        s.instructions = f.instructions;
-        s.constants = f.constants;
-        AnswerAndState {
-            state: s,
-            answer: f.answer,
-        }
+        let f = self.flat_jump(buffers, Counts::of(state), node, sense);
+        f.on(state)
     }
 
     // A key that is pooled: a literal, or the name itself as a string.
@@ -474,7 +437,7 @@ impl Arena<'_> {
         requires { InArena self.now.nodes.now key }
         ensures { result ≡ key_operand (node_at (words self.now.nodes.now) key) }
     {
-        if self.node_word(key, 0) == kind::IDENTIFIER {
+        if self.kind(key) == Kind::Identifier {
             return Operand::String(self.node_word(key, 1));
         }
         self.literal(key)
@@ -486,54 +449,50 @@ impl Arena<'_> {
     pub(crate) fn flat_entry(
         &self,
         buffers: &mut Buffers,
-        instructions: u32,
-        pooled: u32,
+        counts: Counts,
         d: u32,
         key: u32,
         value: u32,
     ) -> AnswerAndCounts
         requires { InArena self.now.nodes.now key × (value ≢ absent → InArena self.now.nodes.now value) }
         ensures step { (list : List ℕ) (rs : RegisterSet) (n : ℕ) → is_inner result.answer ≡ false →
-            settled (lower_entry (tree_of self.now.nodes.now list self.now.names.now) (lower_expression free_temp (tree_of self.now.nodes.now list self.now.names.now)) (register_at d) key value (name_of (node_at (words self.now.nodes.now) key)) (made_of buffers.old (state_of rs instructions pooled n)))
-            ≡ seen (tree_of self.now.nodes.now list self.now.names.now) place_at (made_of buffers.new (state_of rs result.instructions result.constants n)) result.answer }
+            settled (lower_entry (tree_of self.now.nodes.now list self.now.names.now) (lower_expression free_temp (tree_of self.now.nodes.now list self.now.names.now)) (register_at d) key value (name_of (node_at (words self.now.nodes.now) key)) (made_of buffers.old (state_of rs counts n)))
+            ≡ seen (tree_of self.now.nodes.now list self.now.names.now) place_at (made_of buffers.new (state_of rs result.counts n)) result.answer }
         ensures inner { is_inner result.answer ≡ true →
-            (result ≡ record { instructions = instructions; constants = pooled; answer = word_end + key }) × (Untouched buffers.old buffers.new × (value ≢ absent)) }
+            (result ≡ record { counts = counts; answer = word_end + key }) × (Untouched buffers.old buffers.new × (value ≢ absent)) }
         ensures kept { Kept buffers.old buffers.new }
     {
-        let kind = self.node_word(key, 0);
-        if (kind != kind::IDENTIFIER) & (value == ABSENT) {
-            return left_alone(instructions, pooled, refusal_at(Refusal::Key, key));
+        let kind = self.kind(key);
+        if (kind != Kind::Identifier) & node_of(value).is_none() {
+            return counts.refused(Refusal::Key, key);
         }
         let child = value_or_key(key, value);
-        if (kind::IDENTIFIER < kind) | (kind::IDENTIFIER < self.node_word(child, 0)) {
-            return left_alone(instructions, pooled, inner(key));
+        if !kind.is_leaf() | !self.kind(child).is_leaf() {
+            return counts.left(key);
         }
         let Some(src) = self.leaf_operand(child) else {
-            return left_alone(instructions, pooled, refusal_at(Refusal::Undeclared, child));
+            return counts.refused(Refusal::Undeclared, child);
         };
-        let first_field = store_constant(buffers.constants, pooled, self.key_operand(key));
-        let Ok(first) = first_field.place else {
-            return left_alone(instructions, pooled, refusal_at(Refusal::Constants, 0));
-        };
-        let count = first_field.count;
-        let second_field = field_of(buffers.constants, count, src, self.literal(child));
-        let Ok(second) = second_field.place else {
-            return left_alone(instructions, count, refusal_at(Refusal::Constants, 0));
-        };
-        let both = second_field.count;
+        let first_field = store(buffers.constants, counts, self.key_operand(key));
+        if is_refusal(first_field.answer) {
+            return first_field;
+        }
+        let first = value_of(first_field.answer);
+        let pooled = first_field.counts;
+        let second_field = field_of(buffers.constants, pooled, src, self.literal(child));
+        if is_refusal(second_field.answer) {
+            return second_field;
+        }
+        let second = value_of(second_field.answer);
         let opcode = set_opcode(LITERAL, src);
-        let emitted = emit_instruction(
+        emit(
             buffers.code,
-            instructions,
+            second_field.counts,
             opcode,
             reg_of(d),
             first,
             second,
-        );
-        let Ok(n) = emitted.place else {
-            return left_alone(instructions, both, refusal_at(Refusal::Code, 0));
-        };
-        left_alone(emitted.count, both, n as u64)
+        )
     }
 
     // The operator of a node on two sources that the walk has given, into d, where not both are literals. What they held is given back afterwards.
@@ -553,7 +512,6 @@ impl Arena<'_> {
             ≡ seen (tree_of self.now.nodes.now list names) (λ w. Operand.Register (register_at w)) (made_of buffers.new result.state) result.answer }
         ensures kept { Kept buffers.old buffers.new }
     {
-        let mut s = state;
         let operator = BinaryOp::of(self.node_word(node, 1));
         let left = self.node_word(node, 2);
         let right = self.node_word(node, 3);
@@ -561,20 +519,14 @@ impl Arena<'_> {
         let f = binary_sources(
             buffers.code,
             buffers.constants,
-            s.instructions,
-            s.constants,
+            Counts::of(state),
             operator,
             src1,
             src2,
             constant,
             d,
         );
-        s.instructions = f.instructions;
-        s.constants = f.constants;
-        AnswerAndState {
-            state: s,
-            answer: f.answer,
-        }
+        f.on(state)
     }
 
     // The jump of a comparison on two sources that the walk has given, where not both are literals.
@@ -595,7 +547,6 @@ impl Arena<'_> {
             ≡ seen (tree_of self.now.nodes.now list names) place_at (made_of buffers.new result.state) result.answer }
         ensures kept { Kept buffers.old buffers.new }
     {
-        let mut s = state;
         let operator = BinaryOp::of(self.node_word(node, 1));
         let left = self.node_word(node, 2);
         let right = self.node_word(node, 3);
@@ -603,31 +554,14 @@ impl Arena<'_> {
         let f = fused_sources(
             buffers.code,
             buffers.constants,
-            s.instructions,
-            s.constants,
+            Counts::of(state),
             sense,
             operator,
             src1,
             src2,
             constant,
         );
-        s.instructions = f.instructions;
-        s.constants = f.constants;
-        AnswerAndState {
-            state: s,
-            answer: f.answer,
-        }
-    }
-}
-
-// Nothing was done.
-fn left_alone(instructions: u32, pooled: u32, answer: u64) -> AnswerAndCounts
-    ensures { result ≡ record { instructions = instructions; constants = pooled; answer = answer } }
-{
-    AnswerAndCounts {
-        instructions,
-        constants: pooled,
-        answer,
+        f.on(state)
     }
 }
 
@@ -635,7 +569,7 @@ fn left_alone(instructions: u32, pooled: u32, answer: u64) -> AnswerAndCounts
 fn value_or_key(key: u32, value: u32) -> u32
     ensures { result ≡ cond (eqb value absent) key value }
 {
-    if value == ABSENT { key } else { value }
+    node_of(value).unwrap_or(key)
 }
 
 #[tactic(auto, unfolding(crate::specs::Kinds::set_opcode))]

@@ -20,15 +20,14 @@ ghost use Rattle.codegen.specs.Roots.{conditional};
 
 use crate::arena::{Arena, Buffers};
 use crate::flat::Asked;
-use diagnostics::Refusal;
 use environment::RegisterSet;
 use lowering::State;
 use patch::patch_arguments;
 use questions::check;
 use result::{Result, refused_result, result_of};
-use runtime::function::emit_instruction;
 use runtime::opcode::Opcode;
 use steps::answer::{AnswerAndState, answered, is_refusal, refused, reg_of, value_of};
+use steps::step::emit;
 
 // The arguments patched, and then the answer.
 fn patch_and_answer(code: &mut [u8], marks: &mut [u8], state: State, place: u32) -> AnswerAndState
@@ -44,12 +43,7 @@ fn patch_and_answer(code: &mut [u8], marks: &mut [u8], state: State, place: u32)
 
 impl Arena<'_> {
     // Mode 0: the root's value, returned.
-    pub(crate) fn lower_value(
-        &self,
-        buffers: &mut Buffers,
-        state: State,
-        root: u32,
-    ) -> AnswerAndState
+    fn lower_value(&self, buffers: &mut Buffers, state: State, root: u32) -> AnswerAndState
         requires { InArena self.now.nodes.now root }
         ensures lowers { Walks (λ t. place_at) (λ t. lower_root free_temp t 0 root) self.now buffers.old buffers.new state result }
         ensures kept { Kept buffers.old buffers.new }
@@ -60,24 +54,17 @@ impl Arena<'_> {
             return r;
         }
         let src = value_of(r.answer);
-        let mut s = r.state;
-        let emitted = emit_instruction(
-            buffers.code,
-            s.instructions,
-            Opcode::Return,
-            reg_of(src),
-            0,
-            0,
-        );
-        let Ok(_) = emitted.place else {
-            return refused(s, Refusal::Code, 0);
-        };
-        s.instructions = emitted.count;
+        let s1 = r.state;
+        let e = emit(buffers.code, s1, Opcode::Return, reg_of(src), 0, 0);
+        if is_refusal(e.answer) {
+            return e;
+        }
+        let s = e.state;
         patch_and_answer(buffers.code, buffers.marks, s, 0)
     }
 
     // Modes 1 and 2: the root as a condition. The answer is the jump's place.
-    pub(crate) fn lower_condition(
+    fn lower_condition(
         &self,
         buffers: &mut Buffers,
         state: State,
@@ -124,7 +111,7 @@ fn lower_lent(
 
 impl Arena<'_> {
     // The root by its mode. A mode stays a number here: document 01 numbers the modes, and the definition of `lower_root` matches on the number.
-    pub(crate) fn lower_root(
+    fn lower_root(
         &self,
         buffers: &mut Buffers,
         state: State,

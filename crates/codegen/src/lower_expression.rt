@@ -27,16 +27,16 @@ use diagnostics::Refusal;
 use lowering::State;
 use operators::{binary_rr, is_comparison, jump_if, swaps, unary};
 use patch::mark_argument;
-use runtime::function::{emit_instruction, store_constant};
 use runtime::opcode::Opcode;
 use runtime::operand::Operand;
 use steps::answer::{
     AnswerAndState, LITERAL, answered, is_inner, is_refusal, local, refused, reg_of, value_of,
 };
+use steps::counted::{self, Counts};
 use steps::sources::{field_of, first_of};
-use steps::step::{destination, load_constant, patch_to_next};
-use syntax::ast::ABSENT;
-use syntax::kind;
+use steps::step::{destination, emit, given_back, load_constant, patch_to_next, store};
+use syntax::ast::node_of;
+use syntax::kind::Kind;
 use syntax::ops::{BinaryOp, UnaryOp};
 use words::word;
 
@@ -44,7 +44,7 @@ impl Arena<'_> {
     // A node as an expression, by its kind. A literal is LITERAL, and nothing is done. The arms that go deep are asked for first: the compiler inlines what it
     // takes for frequent.
     #[cycle(walk)]
-    pub(crate) fn lower_expression(
+    fn lower_expression(
         &self,
         buffers: &mut Buffers,
         state: State,
@@ -55,30 +55,30 @@ impl Arena<'_> {
         ensures lowers { Walks (λ t. operand_at (node_at t.nodes node)) (λ t. lower_expression free_temp t node (dest_of dest)) self.now buffers.old buffers.new state result }
         ensures kept { Kept buffers.old buffers.new }
     {
-        let kind = self.node_word(node, 0);
+        let kind = self.kind(node);
         let s = state;
-        if (kind::LOGICAL_AND <= kind) & (kind <= kind::IF) {
-            if kind == kind::IF {
+        if kind.jumps() {
+            if kind == Kind::If {
                 return self.lower_if(buffers, s, node, dest);
             }
             return self.logical(buffers, s, node, dest);
         }
-        if kind <= kind::LOGICAL_NOT {
-            if kind == kind::BINARY {
+        if kind.is_leaf_or_operator() {
+            if kind == Kind::Binary {
                 return self.lower_binary(buffers, s, node, dest);
             }
-            if kind < kind::IDENTIFIER {
+            if kind.is_literal() {
                 return answered(s, LITERAL);
             }
-            if kind == kind::IDENTIFIER {
+            if kind == Kind::Identifier {
                 return self.lower_name(buffers, s, node, dest);
             }
             return self.lower_unary(buffers, s, node, dest);
         }
         match kind {
-            kind::BLOCK => self.lower_block(buffers, s, node, dest),
-            kind::FUNCTION_CALL => self.lower_call(buffers, s, node, dest),
-            kind::PROPERTY_ACCESS => self.property(buffers, s, node, dest),
+            Kind::Block => self.lower_block(buffers, s, node, dest),
+            Kind::FunctionCall => self.lower_call(buffers, s, node, dest),
+            Kind::PropertyAccess => self.property(buffers, s, node, dest),
             _ => self.lower_map(buffers, s, node, dest),
         }
     }
@@ -107,7 +107,7 @@ impl Arena<'_> {
     }
 
     // Name: its own register, or a Move if another destination was given. Takes nothing.
-    pub(crate) fn lower_name(
+    fn lower_name(
         &self,
         buffers: &mut Buffers,
         state: State,
@@ -119,34 +119,13 @@ impl Arena<'_> {
             ≡ seen (tree_of self.now.nodes.now list self.now.names.now) (operand_at (node_at (words self.now.nodes.now) node)) (made_of buffers.new result.state) result.answer }
         ensures kept { Kept buffers.old buffers.new }
     {
-        let mut s = state;
-        let Some(register) = self.find(self.node_word(node, 1)) else {
-            return refused(s, Refusal::Undeclared, node);
-        };
-        let Some(d) = dest else {
-            return answered(s, register);
-        };
-        if d == register {
-            return answered(s, register);
-        }
-        let emitted = emit_instruction(
-            buffers.code,
-            s.instructions,
-            Opcode::Move,
-            reg_of(d),
-            reg_of(register),
-            0,
-        );
-        let Ok(_) = emitted.place else {
-            return refused(s, Refusal::Code, 0);
-        };
-        s.instructions = emitted.count;
-        answered(s, d)
+        let f = self.name_into(buffers, Counts::of(state), node, dest);
+        f.on(state)
     }
 
     // Binary: destination first, left, right, then constants pooled, one instruction. Gives back what the operands held.
     #[cycle(walk)]
-    pub(crate) fn lower_binary(
+    fn lower_binary(
         &self,
         buffers: &mut Buffers,
         state: State,
@@ -195,7 +174,7 @@ impl Arena<'_> {
     }
 
     // Binary, "Two literals are both loaded": each into a register that is taken, both given back.
-    pub(crate) fn lower_literals(
+    fn lower_literals(
         &self,
         buffers: &mut Buffers,
         state: State,
@@ -208,7 +187,6 @@ impl Arena<'_> {
         ensures word { DestOrRefusal d result.answer }
         ensures kept { Kept buffers.old buffers.new }
     {
-        let operator = BinaryOp::of(self.node_word(node, 1));
         let left = self.node_word(node, 2);
         let right = self.node_word(node, 3);
         let r1 = load_constant(
@@ -233,23 +211,17 @@ impl Arena<'_> {
         if is_refusal(r2.answer) {
             return r2;
         }
-        let mut s = r2.state;
+        let s2 = r2.state;
         let src2 = value_of(r2.answer);
+        let operator = BinaryOp::of(self.node_word(node, 1));
         let swap = swaps(operator);
         let a = first_of(swap, reg_of(src1), reg_of(src2));
         let b = first_of(swap, reg_of(src2), reg_of(src1));
-        let emitted = emit_instruction(
-            buffers.code,
-            s.instructions,
-            binary_rr(operator),
-            reg_of(d),
-            a,
-            b,
-        );
-        let Ok(_) = emitted.place else {
-            return refused(s, Refusal::Code, 0);
-        };
-        s.instructions = emitted.count;
+        let e = emit(buffers.code, s2, binary_rr(operator), reg_of(d), a, b);
+        if is_refusal(e.answer) {
+            return e;
+        }
+        let mut s = e.state;
         let held = s.registers;
         let held1 = held.give_back(src1);
         let held2 = held1.give_back(src2);
@@ -259,23 +231,23 @@ impl Arena<'_> {
 
     // The operand of a unary operator or of not, and its opcode.
     #[tactic(auto, unfolding(crate::specs::Kinds::only_operand))]
-    pub(crate) fn only_operand(&self, node: u32) -> u32
+    fn only_operand(&self, node: u32) -> u32
         requires { InArena self.now.nodes.now node }
         ensures { result ≡ only_operand self.now.nodes.now node }
     {
-        if self.node_word(node, 0) == kind::UNARY {
+        if self.kind(node) == Kind::Unary {
             return self.node_word(node, 2);
         }
         self.node_word(node, 1)
     }
 
     #[tactic(auto, unfolding(runtime::specs::Instruction::words_of))]
-    pub(crate) fn only_opcode(&self, node: u32) -> Opcode
+    fn only_opcode(&self, node: u32) -> Opcode
         requires { InArena self.now.nodes.now node }
         ensures unary { node_word_of self.now.nodes.now node 0 ≡ unary_kind → (d a : ℕ) → words_of (unary (unary_op (node_word_of self.now.nodes.now node 1)) d a) ≡ opcode_number result ∷ d ∷ a ∷ 0 ∷ [] }
         ensures not { node_word_of self.now.nodes.now node 0 ≢ unary_kind → (d a : ℕ) → words_of (Instruction.Not d a) ≡ opcode_number result ∷ d ∷ a ∷ 0 ∷ [] }
     {
-        if self.node_word(node, 0) == kind::UNARY {
+        if self.kind(node) == Kind::Unary {
             return unary(UnaryOp::of(self.node_word(node, 1)));
         }
         Opcode::Not
@@ -283,7 +255,7 @@ impl Arena<'_> {
 
     // Unary, not: destination, operand, one instruction. Gives back what the operand held.
     #[cycle(walk)]
-    pub(crate) fn lower_unary(
+    fn lower_unary(
         &self,
         buffers: &mut Buffers,
         state: State,
@@ -307,34 +279,23 @@ impl Arena<'_> {
             return r1;
         }
         let src = value_of(r1.answer);
-        let mut s = r1.state;
+        let s = r1.state;
         let opcode = self.only_opcode(node);
-        let emitted = emit_instruction(
-            buffers.code,
-            s.instructions,
-            opcode,
-            reg_of(d),
-            reg_of(src),
-            0,
-        );
-        let Ok(_) = emitted.place else {
-            return refused(s, Refusal::Code, 0);
-        };
-        s.instructions = emitted.count;
-        let held = s.registers;
-        let held1 = held.give_back(src);
-        s.registers = held1;
-        answered(s, d)
+        let e = emit(buffers.code, s, opcode, reg_of(d), reg_of(src), 0);
+        if is_refusal(e.answer) {
+            return e;
+        }
+        answered(given_back(e.state, src), d)
     }
 
     // The jump over the right side of and, or.
     #[tactic(auto, unfolding(runtime::specs::Instruction::words_of))]
-    pub(crate) fn logical_jump(&self, node: u32) -> Opcode
+    fn logical_jump(&self, node: u32) -> Opcode
         requires { InArena self.now.nodes.now node }
         ensures and { node_word_of self.now.nodes.now node 0 ≡ and_kind → (a : ℕ) → words_of (Instruction.JumpIfFalse a 0) ≡ opcode_number result ∷ a ∷ 0 ∷ 0 ∷ [] }
         ensures or { node_word_of self.now.nodes.now node 0 ≢ and_kind → (a : ℕ) → words_of (Instruction.JumpIfTrue a 0) ≡ opcode_number result ∷ a ∷ 0 ∷ 0 ∷ [] }
     {
-        if self.node_word(node, 0) == kind::LOGICAL_AND {
+        if self.kind(node) == Kind::LogicalAnd {
             return Opcode::JumpIfFalse;
         }
         Opcode::JumpIfTrue
@@ -342,7 +303,7 @@ impl Arena<'_> {
 
     // And, or: left into the destination, jump, right into the same. Gives nothing back.
     #[cycle(walk)]
-    pub(crate) fn logical(
+    fn logical(
         &self,
         buffers: &mut Buffers,
         state: State,
@@ -366,13 +327,14 @@ impl Arena<'_> {
         if is_refusal(r1.answer) {
             return r1;
         }
-        let mut s = r1.state;
-        let jump = self.logical_jump(node);
-        let emitted = emit_instruction(buffers.code, s.instructions, jump, reg_of(d), 0, 0);
-        let Ok(place) = emitted.place else {
-            return refused(s, Refusal::Code, 0);
-        };
-        s.instructions = emitted.count;
+        let s1 = r1.state;
+        let opcode = self.logical_jump(node);
+        let e = emit(buffers.code, s1, opcode, reg_of(d), 0, 0);
+        if is_refusal(e.answer) {
+            return e;
+        }
+        let s = e.state;
+        let place = value_of(e.answer);
         let f2 = self.peek_into(buffers, s, right, d);
         let r2 = self.lower_materializing(buffers, s, f2, Some(d));
         if is_refusal(r2.answer) {
@@ -385,7 +347,7 @@ impl Arena<'_> {
 
     // If: condition, destination, then, jump, else. What the condition holds stays held.
     #[cycle(walk)]
-    pub(crate) fn lower_if(
+    fn lower_if(
         &self,
         buffers: &mut Buffers,
         state: State,
@@ -398,7 +360,6 @@ impl Arena<'_> {
     {
         let condition = self.node_word(node, 1);
         let then_branch = self.node_word(node, 2);
-        let else_branch = self.node_word(node, 3);
         let r = self.lower_jump_if_false(buffers, state, condition);
         if is_refusal(r.answer) {
             return r;
@@ -416,16 +377,17 @@ impl Arena<'_> {
         if is_refusal(r1.answer) {
             return r1;
         }
-        let mut s = r1.state;
-        let emitted = emit_instruction(buffers.code, s.instructions, Opcode::Jump, 0, 0, 0);
-        let Ok(jump_end) = emitted.place else {
-            return refused(s, Refusal::Code, 0);
-        };
-        s.instructions = emitted.count;
-        patch_to_next(buffers.code, jump_if_false, s.instructions);
-        if else_branch == ABSENT {
-            return refused(s, Refusal::Else, node);
+        let s2 = r1.state;
+        let e = emit(buffers.code, s2, Opcode::Jump, 0, 0, 0);
+        if is_refusal(e.answer) {
+            return e;
         }
+        let s = e.state;
+        let jump_end = value_of(e.answer);
+        patch_to_next(buffers.code, jump_if_false, s.instructions);
+        let Some(else_branch) = node_of(self.node_word(node, 3)) else {
+            return refused(s, Refusal::Else, node);
+        };
         let f2 = self.peek_into(buffers, s, else_branch, d);
         let r2 = self.lower_materializing(buffers, s, f2, Some(d));
         if is_refusal(r2.answer) {
@@ -438,7 +400,7 @@ impl Arena<'_> {
 
     // Block: destination, then the tail or nil.
     #[cycle(walk)]
-    pub(crate) fn lower_block(
+    fn lower_block(
         &self,
         buffers: &mut Buffers,
         state: State,
@@ -449,14 +411,13 @@ impl Arena<'_> {
         ensures lowers { Walks (λ t. operand_at (node_at t.nodes node)) (λ t. lower_expression free_temp t node (dest_of dest)) self.now buffers.old buffers.new state result }
         ensures kept { Kept buffers.old buffers.new }
     {
-        let tail = self.node_word(node, 1);
         let t = destination(state, dest);
         if is_refusal(t.answer) {
             return t;
         }
         let d = value_of(t.answer);
         let s = t.state;
-        if tail == ABSENT {
+        let Some(tail) = node_of(self.node_word(node, 1)) else {
             let u = s;
             let r = load_constant(buffers.code, buffers.constants, u, Operand::Nil, Some(d));
             if is_refusal(r.answer) {
@@ -464,7 +425,7 @@ impl Arena<'_> {
             }
             let s1 = r.state;
             return answered(s1, d);
-        }
+        };
         let f1 = self.peek_into(buffers, s, tail, d);
         let r1 = self.lower_materializing(buffers, s, f1, Some(d));
         if is_refusal(r1.answer) {
@@ -476,7 +437,7 @@ impl Arena<'_> {
 
     // Call: the arguments; then destination, callee, Call. Gives back what the callee held.
     #[cycle(walk)]
-    pub(crate) fn lower_call(
+    fn lower_call(
         &self,
         buffers: &mut Buffers,
         state: State,
@@ -506,28 +467,17 @@ impl Arena<'_> {
             return r1;
         }
         let src = value_of(r1.answer);
-        let mut s = r1.state;
-        let emitted = emit_instruction(
-            buffers.code,
-            s.instructions,
-            Opcode::Call,
-            reg_of(d),
-            reg_of(src),
-            count,
-        );
-        let Ok(_) = emitted.place else {
-            return refused(s, Refusal::Code, 0);
-        };
-        s.instructions = emitted.count;
-        let held = s.registers;
-        let held1 = held.give_back(src);
-        s.registers = held1;
-        answered(s, d)
+        let s = r1.state;
+        let e = emit(buffers.code, s, Opcode::Call, reg_of(d), reg_of(src), count);
+        if is_refusal(e.answer) {
+            return e;
+        }
+        answered(given_back(e.state, src), d)
     }
 
     // The arguments of a call: argument i into local i, and the last instruction marked.
     #[cycle(walk)]
-    pub(crate) fn arguments(&self, buffers: &mut Buffers, state: State, node: u32) -> AnswerAndState
+    fn arguments(&self, buffers: &mut Buffers, state: State, node: u32) -> AnswerAndState
         requires { InArena self.now.nodes.now node × (node_word_of self.now.nodes.now node 0 ≡ call_kind) }
         ensures lowers { Walks (λ t. unit_at) (λ t. lower_arguments t (lower_expression free_temp t) node (node_word_of self.now.nodes.now node 2) (node_word_of self.now.nodes.now node 3) 0) self.now buffers.old buffers.new state result }
         ensures kept { Kept buffers.old buffers.new }
@@ -559,7 +509,7 @@ impl Arena<'_> {
 
     // Property: destination, object, key pooled. Gives back what the object held.
     #[cycle(walk)]
-    pub(crate) fn property(
+    fn property(
         &self,
         buffers: &mut Buffers,
         state: State,
@@ -584,33 +534,30 @@ impl Arena<'_> {
             return r1;
         }
         let src = value_of(r1.answer);
-        let mut s = r1.state;
-        let stored = store_constant(buffers.constants, s.constants, Operand::String(property));
-        let Ok(k) = stored.place else {
-            return refused(s, Refusal::Constants, 0);
-        };
-        s.constants = stored.count;
-        let emitted = emit_instruction(
+        let s = r1.state;
+        let p = store(buffers.constants, s, Operand::String(property));
+        if is_refusal(p.answer) {
+            return p;
+        }
+        let k = value_of(p.answer);
+        let s2 = p.state;
+        let e = emit(
             buffers.code,
-            s.instructions,
+            s2,
             Opcode::GetPropertyK,
             reg_of(d),
             reg_of(src),
             k,
         );
-        let Ok(_) = emitted.place else {
-            return refused(s, Refusal::Code, 0);
-        };
-        s.instructions = emitted.count;
-        let held = s.registers;
-        let held1 = held.give_back(src);
-        s.registers = held1;
-        answered(s, d)
+        if is_refusal(e.answer) {
+            return e;
+        }
+        answered(given_back(e.state, src), d)
     }
 
     // Map: CreateMap, then entry by entry. What the entries hold stays held.
     #[cycle(walk)]
-    pub(crate) fn lower_map(
+    fn lower_map(
         &self,
         buffers: &mut Buffers,
         state: State,
@@ -628,24 +575,17 @@ impl Arena<'_> {
             return t;
         }
         let d = value_of(t.answer);
-        let mut s = t.state;
-        let emitted = emit_instruction(
-            buffers.code,
-            s.instructions,
-            Opcode::CreateMap,
-            reg_of(d),
-            0,
-            0,
-        );
-        let Ok(_) = emitted.place else {
-            return refused(s, Refusal::Code, 0);
-        };
-        s.instructions = emitted.count;
+        let s0 = t.state;
+        let e = emit(buffers.code, s0, Opcode::CreateMap, reg_of(d), 0, 0);
+        if is_refusal(e.answer) {
+            return e;
+        }
+        let mut s = e.state;
         for i in 0..count {
             let at = first + 2 * (i as usize);
             let key = word(self.list, at);
             let value = word(self.list, at + 1);
-            let f = self.flat_entry(buffers, s.instructions, s.constants, d, key, value);
+            let f = self.flat_entry(buffers, Counts::of(s), d, key, value);
             let answer = f.answer;
             if is_inner(answer) {
                 let u = s;
@@ -656,8 +596,8 @@ impl Arena<'_> {
                 let s1 = r.state;
                 s = s1;
             } else {
-                s.instructions = f.instructions;
-                s.constants = f.constants;
+                s.instructions = f.counts.instructions;
+                s.constants = f.counts.constants;
                 if is_refusal(answer) {
                     return AnswerAndState { state: s, answer };
                 }
@@ -669,7 +609,7 @@ impl Arena<'_> {
     // One entry that was left to the walk, so it has a value. A key that is a name or a literal is pooled after the value is lowered; any other key is lowered
     // before its value.
     #[cycle(walk)]
-    pub(crate) fn entry(
+    fn entry(
         &self,
         buffers: &mut Buffers,
         state: State,
@@ -682,7 +622,7 @@ impl Arena<'_> {
         ensures lowers { Walks (λ t. place_at) (λ t. lower_entry t (lower_expression free_temp t) (register_at d) key value (name_of (node_at t.nodes key))) self.now buffers.old buffers.new state result }
         ensures kept { Kept buffers.old buffers.new }
     {
-        if self.node_word(key, 0) <= kind::IDENTIFIER {
+        if self.kind(key).is_leaf() {
             let f1 = self.peek(buffers, state, value, Asked::Operand);
             let r1 = self.lower_materializing(buffers, state, f1, None);
             if is_refusal(r1.answer) {
@@ -710,7 +650,7 @@ impl Arena<'_> {
     }
 
     // The end of an entry: "Literals left over are pooled last, key before value."
-    pub(crate) fn set_property(
+    fn set_property(
         &self,
         buffers: &mut Buffers,
         state: State,
@@ -726,41 +666,33 @@ impl Arena<'_> {
             ≡ seen t place_at (made_of buffers.new result.state) result.answer }
         ensures kept { Kept buffers.old buffers.new }
     {
-        let mut s = state;
-        let first_field = field_of(buffers.constants, s.constants, src1, self.key_operand(key));
-        let Ok(first) = first_field.place else {
-            return refused(s, Refusal::Constants, 0);
-        };
-        s.constants = first_field.count;
-        let second_field = field_of(buffers.constants, s.constants, src2, self.literal(value));
-        let Ok(second) = second_field.place else {
-            return refused(s, Refusal::Constants, 0);
-        };
-        s.constants = second_field.count;
+        let counts = Counts::of(state);
+        let first_field = field_of(buffers.constants, counts, src1, self.key_operand(key));
+        if is_refusal(first_field.answer) {
+            return first_field.on(state);
+        }
+        let first = value_of(first_field.answer);
+        let pooled = first_field.counts;
+        let second_field = field_of(buffers.constants, pooled, src2, self.literal(value));
+        if is_refusal(second_field.answer) {
+            return second_field.on(state);
+        }
+        let second = value_of(second_field.answer);
         let opcode = set_opcode(src1, src2);
-        let emitted = emit_instruction(
+        let e = counted::emit(
             buffers.code,
-            s.instructions,
+            second_field.counts,
             opcode,
             reg_of(d),
             first,
             second,
         );
-        let Ok(n) = emitted.place else {
-            return refused(s, Refusal::Code, 0);
-        };
-        s.instructions = emitted.count;
-        answered(s, n)
+        e.on(state)
     }
 
     // A node as a condition: the place of the jump that is taken where it is false. What it holds stays held.
     #[cycle(walk)]
-    pub(crate) fn lower_jump_if_false(
-        &self,
-        buffers: &mut Buffers,
-        state: State,
-        node: u32,
-    ) -> AnswerAndState
+    fn lower_jump_if_false(&self, buffers: &mut Buffers, state: State, node: u32) -> AnswerAndState
         requires { InArena self.now.nodes.now node }
         ensures lowers { Walks (λ t. place_at) (λ t. lower_jump_if_false free_temp t node) self.now buffers.old buffers.new state result }
         ensures kept { Kept buffers.old buffers.new }
@@ -769,16 +701,13 @@ impl Arena<'_> {
         let answer = f.answer;
         if is_inner(answer) {
             let t = state;
-            if self.is_compared(node) {
-                return self.fuse(buffers, t, node, false);
-            }
-            return self.test(buffers, t, node, false);
+            return self.lower_jump_if(buffers, t, node, false);
         }
         f
     }
 
     // A root as a condition: `lower_jump_if_false` and `lower_jump_if_true`, by the outcome at which the jump is taken.
-    #[tactic(auto, using(crate::proofs::Conditions::not_compared))]
+    #[cycle(walk)]
     pub(crate) fn lower_jump_if(
         &self,
         buffers: &mut Buffers,
@@ -798,11 +727,11 @@ impl Arena<'_> {
 
     // Whether a condition is a comparison, whose jump is fused.
     #[tactic(auto, using(crate::proofs::Reading::node_other), unfolding(crate::specs::Kinds::is_compared, syntax::specs::Ast::node_at))]
-    pub(crate) fn is_compared(&self, node: u32) -> bool
+    fn is_compared(&self, node: u32) -> bool
         requires { InArena self.now.nodes.now node }
         ensures { result ≡ is_compared (node_at (words self.now.nodes.now) node) }
     {
-        if self.node_word(node, 0) == kind::BINARY {
+        if self.kind(node) == Kind::Binary {
             return is_comparison(BinaryOp::of(self.node_word(node, 1)));
         }
         false
@@ -810,19 +739,13 @@ impl Arena<'_> {
 
     // A node in a register, then JumpIfFalse or JumpIfTrue. Its place is the answer.
     #[cycle(walk)]
-    pub(crate) fn test(
-        &self,
-        buffers: &mut Buffers,
-        state: State,
-        node: u32,
-        sense: bool,
-    ) -> AnswerAndState
+    fn test(&self, buffers: &mut Buffers, state: State, node: u32, sense: bool) -> AnswerAndState
         requires { InArena self.now.nodes.now node }
         ensures lowers { Walks (λ t. place_at) (λ t. test t (lower_expression free_temp t) sense (lower_expression free_temp t node)) self.now buffers.old buffers.new state result }
         ensures kept { Kept buffers.old buffers.new }
     {
         let t = state;
-        let r = if self.node_word(node, 0) < kind::IDENTIFIER {
+        let r = if self.kind(node).is_literal() {
             load_constant(buffers.code, buffers.constants, t, self.literal(node), None)
         } else {
             self.lower_expression(buffers, t, node, None)
@@ -831,31 +754,13 @@ impl Arena<'_> {
             return r;
         }
         let src = value_of(r.answer);
-        let mut s = r.state;
-        let emitted = emit_instruction(
-            buffers.code,
-            s.instructions,
-            jump_if(sense),
-            reg_of(src),
-            0,
-            0,
-        );
-        let Ok(n) = emitted.place else {
-            return refused(s, Refusal::Code, 0);
-        };
-        s.instructions = emitted.count;
-        answered(s, n)
+        let s = r.state;
+        emit(buffers.code, s, jump_if(sense), reg_of(src), 0, 0)
     }
 
     // Left, right, constants pooled, one fused jump; two literals are tested like anything else. No destination is taken, nothing is given back.
     #[cycle(walk)]
-    pub(crate) fn fuse(
-        &self,
-        buffers: &mut Buffers,
-        state: State,
-        node: u32,
-        sense: bool,
-    ) -> AnswerAndState
+    fn fuse(&self, buffers: &mut Buffers, state: State, node: u32, sense: bool) -> AnswerAndState
         requires { InArena self.now.nodes.now node × (is_compared (node_at (words self.now.nodes.now) node) ≡ true) }
         ensures lowers { Walks (λ t. place_at) (λ t. jump_node t (lower_expression free_temp t) sense (lower_expression free_temp t node) (node_at t.nodes node)) self.now buffers.old buffers.new state result }
         ensures kept { Kept buffers.old buffers.new }

@@ -8,14 +8,15 @@ ghost use Rattle.words.specs.Words.{words};
 ghost use Rattle.words.specs.Records.{capacity};
 ghost use Rattle.syntax.specs.declared.ast.Node.{Node};
 ghost use Rattle.syntax.specs.Ast.{node_kinds, node_width};
+ghost use Rattle.syntax.specs.Kinds.{kind_number};
 ghost use Rattle.lowering.specs.Tree.{present, entry_nodes, children, tree_of};
 ghost use Rattle.lowering.specs.Questions.{question1, question4, question5, question6, all_below, Verdict, ask, ask_node, ask_nodes, questions};
 ghost use Rattle.questions.specs.Verdict.{following, verdict};
 
 use diagnostics::{Refusal, Refused};
 use runtime::value::is_nan;
-use syntax::ast::{ABSENT, NODE_WORDS};
-use syntax::kind;
+use syntax::ast::{NODE_WORDS, node_of};
+use syntax::kind::Kind;
 use syntax::ops::{BinaryOp, UnaryOp};
 use words::{WORD_BYTES, WORD_END, capacity, word};
 
@@ -30,8 +31,6 @@ const MAX_PARAMETERS: usize = 256;
 const MAX_ARGUMENTS: u32 = 255;
 
 const LAST_MODE: u32 = 2;
-
-const LAST_KIND: u32 = kind::MAP;
 
 const LAST_BINARY_OP: u32 = BinaryOp::LessEqual as u32;
 
@@ -67,36 +66,35 @@ fn sizes_fit(nodes: &[u8], list: &[u8], names: &[u8]) -> bool
 }
 
 // 4: whether boolean and operator words are in their ranges, unused words 0.
-#[tactic(auto, using(crate::proofs::Tables::past_used_words), unfolding(lowering::specs::Questions::question4))]
-fn words_used(kind: u32, a: u32, b: u32, c: u32) -> bool
-    ensures { result ≡ question4 kind a b c }
+#[tactic(auto, unfolding(lowering::specs::Questions::question4))]
+fn words_used(kind: Kind, a: u32, b: u32, c: u32) -> bool
+    ensures { result ≡ question4 (kind_number kind) a b c }
 {
     match kind {
-        kind::NUMBER => c == 0,
-        kind::STRING => (b == 0) & (c == 0),
-        kind::BOOLEAN => (a <= 1) & (b == 0) & (c == 0),
-        kind::NIL => (a == 0) & (b == 0) & (c == 0),
-        kind::IDENTIFIER => (b == 0) & (c == 0),
-        kind::BINARY => a <= LAST_BINARY_OP,
-        kind::UNARY => (a <= LAST_UNARY_OP) & (c == 0),
-        kind::LOGICAL_NOT => (b == 0) & (c == 0),
-        kind::LOGICAL_AND => c == 0,
-        kind::LOGICAL_OR => c == 0,
-        kind::IF => true,
-        kind::BLOCK => (b == 0) & (c == 0),
-        kind::FUNCTION_CALL => true,
-        kind::PROPERTY_ACCESS => c == 0,
-        kind::MAP => c == 0,
-        _ => true,
+        Kind::Number => c == 0,
+        Kind::String => (b == 0) & (c == 0),
+        Kind::Boolean => (a <= 1) & (b == 0) & (c == 0),
+        Kind::Nil => (a == 0) & (b == 0) & (c == 0),
+        Kind::Identifier => (b == 0) & (c == 0),
+        Kind::Binary => a <= LAST_BINARY_OP,
+        Kind::Unary => (a <= LAST_UNARY_OP) & (c == 0),
+        Kind::LogicalNot => (b == 0) & (c == 0),
+        Kind::LogicalAnd => c == 0,
+        Kind::LogicalOr => c == 0,
+        Kind::If => true,
+        Kind::Block => (b == 0) & (c == 0),
+        Kind::FunctionCall => true,
+        Kind::PropertyAccess => c == 0,
+        Kind::Map => c == 0,
     }
 }
 
 // 5: whether a number is neither NaN nor minus zero.
 #[tactic(auto, unfolding(lowering::specs::Questions::question5))]
-fn number_allowed(kind: u32, low: u32, high: u32) -> bool
-    ensures { result ≡ question5 kind low high }
+fn number_allowed(kind: Kind, low: u32, high: u32) -> bool
+    ensures { result ≡ question5 (kind_number kind) low high }
 {
-    if kind == kind::NUMBER {
+    if kind == Kind::Number {
         let bits = WORD_END * (high as u64) + (low as u64);
         !is_nan(bits) & !((low == 0) & (high == MINUS_ZERO_HIGH))
     } else {
@@ -106,22 +104,25 @@ fn number_allowed(kind: u32, low: u32, high: u32) -> bool
 
 // 6: whether a node's part of the list is inside the list, arguments few enough. Sums and doubles pass 32 bits.
 #[tactic(auto, unfolding(lowering::specs::Questions::question6))]
-fn part_inside(size: usize, kind: u32, a: u32, b: u32, c: u32) -> bool
-    ensures { result ≡ question6 size kind a b c }
+fn part_inside(size: usize, kind: Kind, a: u32, b: u32, c: u32) -> bool
+    ensures { result ≡ question6 size (kind_number kind) a b c }
 {
     match kind {
-        kind::FUNCTION_CALL => ((b as usize) + (c as usize) <= size) & (c <= MAX_ARGUMENTS),
-        kind::MAP => (a as usize) + 2 * (b as usize) <= size,
+        Kind::FunctionCall => ((b as usize) + (c as usize) <= size) & (c <= MAX_ARGUMENTS),
+        Kind::Map => (a as usize) + 2 * (b as usize) <= size,
         _ => true,
     }
 }
 
 // Whether a node that may be absent is lower than node i.
-#[tactic(auto, using(crate::proofs::Below::below_present))]
+#[tactic(auto, using(crate::proofs::Below::below_present), unfolding(syntax::specs::Ast::node_of))]
 fn absent_or_below(i: u32, child: u32) -> bool
     ensures { result ≡ all_below i (present child) }
 {
-    (child == ABSENT) | (child < i)
+    match node_of(child) {
+        Some(c) => c < i,
+        None => true,
+    }
 }
 
 // Whether every argument of a call is lower than node i.
@@ -158,37 +159,42 @@ fn entries_below(list: &[u8], i: u32, first: u32, count: u32) -> bool
 
 // 7: whether every node that node i names is lower than itself.
 #[tactic(auto, using(crate::proofs::Below::below_one, crate::proofs::Below::below_two, crate::proofs::Below::below_two_more, crate::proofs::Tables::call_inside, crate::proofs::Tables::map_inside), unfolding(lowering::specs::Tree::children, lowering::specs::Questions::all_below))]
-fn children_below(list: &[u8], i: u32, kind: u32, a: u32, b: u32, c: u32) -> bool
-    requires { question6 (length (words list.now)) kind a b c ≡ true }
-    ensures { result ≡ all_below i (children (words list.now) (get_or node_kinds kind (λ x y z. Node.Nil) a b c)) }
+fn children_below(list: &[u8], i: u32, kind: Kind, a: u32, b: u32, c: u32) -> bool
+    requires { question6 (length (words list.now)) (kind_number kind) a b c ≡ true }
+    ensures { result ≡ all_below i (children (words list.now) (get_or node_kinds (kind_number kind) (λ x y z. Node.Nil) a b c)) }
 {
     match kind {
-        kind::BINARY => (b < i) & (c < i),
-        kind::UNARY => b < i,
-        kind::LOGICAL_NOT => a < i,
-        kind::LOGICAL_AND => (a < i) & (b < i),
-        kind::LOGICAL_OR => (a < i) & (b < i),
-        kind::IF => (a < i) & (b < i) & absent_or_below(i, c),
-        kind::BLOCK => absent_or_below(i, a),
-        kind::FUNCTION_CALL => a < i && arguments_below(list, i, b, c),
-        kind::PROPERTY_ACCESS => a < i,
-        kind::MAP => entries_below(list, i, a, b),
-        _ => true,
+        Kind::Number | Kind::String | Kind::Boolean | Kind::Nil | Kind::Identifier => true,
+        Kind::Binary => (b < i) & (c < i),
+        Kind::Unary => b < i,
+        Kind::LogicalNot => a < i,
+        Kind::LogicalAnd => (a < i) & (b < i),
+        Kind::LogicalOr => (a < i) & (b < i),
+        Kind::If => (a < i) & (b < i) & absent_or_below(i, c),
+        Kind::Block => absent_or_below(i, a),
+        Kind::FunctionCall => a < i && arguments_below(list, i, b, c),
+        Kind::PropertyAccess => a < i,
+        Kind::Map => entries_below(list, i, a, b),
     }
 }
 
 // Questions 3 to 7 of node i, by its words. The compiler makes one jump of the matches on the kind, so a node costs one jump and the comparisons of its kind, a
 // call and a map too.
-#[tactic(auto, using(words::proofs::Words::length_words, std::proofs::lemmas::Result::err_from_is_err_and))]
-fn check_words(list: &[u8], i: u32, kind: u32, a: u32, b: u32, c: u32) -> Result<(), Refused>
-    ensures { (next : Verdict) → following result next ≡ ask (leb kind 14) Refusal.Kind i
-        (ask (question4 kind a b c) Refusal.Unused i
-        (ask (question5 kind a b) Refusal.Number i
-        (ask (question6 (length (words list.now)) kind a b c) Refusal.List i
-        (ask (all_below i (children (words list.now) (get_or node_kinds kind (λ x y z. Node.Nil) a b c))) Refusal.Order i
+#[tactic(auto, using(words::proofs::Words::length_words, crate::proofs::Tables::kind_asked, crate::proofs::Tables::kind_none, syntax::proofs::KindWords::kind_number_of, std::proofs::lemmas::Result::err_from_is_err_and))]
+fn check_words(list: &[u8], i: u32, word: u32, a: u32, b: u32, c: u32) -> Result<(), Refused>
+    ensures { (next : Verdict) → following result next ≡ ask (leb word 14) Refusal.Kind i
+        (ask (question4 word a b c) Refusal.Unused i
+        (ask (question5 word a b) Refusal.Number i
+        (ask (question6 (length (words list.now)) word a b c) Refusal.List i
+        (ask (all_below i (children (words list.now) (get_or node_kinds word (λ x y z. Node.Nil) a b c))) Refusal.Order i
         next)))) }
 {
-    ask(kind <= LAST_KIND, Refusal::Kind, i)?;
+    let Some(kind) = Kind::of(word) else {
+        return Err(Refused {
+            refusal: Refusal::Kind,
+            place: i,
+        });
+    };
     ask(words_used(kind, a, b, c), Refusal::Unused, i)?;
     ask(number_allowed(kind, a, b), Refusal::Number, i)?;
     let size = list.len() / WORD_BYTES;

@@ -2,10 +2,10 @@
 -- `e : settled o ≡ seen t gives m a`, which is what a function of the walk ensures. Assumes nothing.
 use Rattle.std.specs.Prelude.{Result, Ok, Err}
 use mathlib.Core.Path.{◌≡◌, refl, sym, ◌∙◌, ap}
-use mathlib.Core.Logic.{◌≢◌}
+use mathlib.Core.Logic.{◌≢◌, inl, inr}
 use mathlib.Core.Bool.{Bool, true, false, false≢true}
 use mathlib.Core.List.{List, [], ◌∷◌}
-use Prim.Native.Nat.{ℕ, ◌-◌, ◌<◌}
+use Prim.Native.Nat.{ℕ, ◌-◌, ◌<◌, ◌≤◌}
 use native.Mathlib.Omega.{arith}
 use borrow.Author.Tests.{ne_eqb}
 use Rattle.diagnostics.specs.declared.Refusal.{Refusal}
@@ -13,7 +13,8 @@ use Rattle.diagnostics.specs.declared.Error.{Error}
 use Rattle.words.specs.declared.Appended.{Appended}
 use Rattle.words.specs.Records.{Buffer, buffer, append, max_count}
 use Rattle.words.proofs.Records.{append_refused}
-use Rattle.runtime.proofs.Pool.{store_refused}
+use Rattle.runtime.specs.Pool.{Stored}
+use Rattle.runtime.proofs.Pool.{store_at, store_refused}
 use Rattle.environment.specs.declared.Register.{Register}
 use Rattle.environment.specs.declared.Taken.{Taken}
 use Rattle.environment.specs.Registers.{taken}
@@ -159,6 +160,13 @@ module _ (t : Tree) where
       stop_marked gives h =
           rw (ne_eqb m.state.instructions 0 there)
           (stop_appended (λ ws count. with_marks ws count m) _ marks a k left _ Refusal.Marks gives h (append_refused _ _ _ _ _ left h) refl)
+
+-- the place of a constant is none above the count
+pub stored_place : (constants : List ℕ) (count : ℕ) (c : Operand) {pool : List ℕ} {a : Appended} {n : ℕ} → buffer pool a ≡ store_constant constants count c → a.place ≡ Ok n → n ≤ count
+stored_place constants count c {n = n} left h = low (store_at constants count c n (rw (← left) h))
+  where
+    low : Stored constants count c (store_constant constants count c) n → n ≤ count
+    low stored = elim stored.grows [ inl l ↦ omega (arith, l.0) | inr e ↦ omega (arith, e.0) ]
 
 -- a temporary taken, by what the program has of it: its number, or `none` where no register is free
 module _ (m : Made) {after : Taken} {w : ℕ} (took : after ≡ taken m.state.registers) (number : w ≡ number_at after.place) where

@@ -2,11 +2,11 @@
 use Rattle.std.specs.Prelude.{Result, Ok, Err}
 use mathlib.Core.Path.{◌≡◌, refl, sym, ap, ◌∙◌}
 use mathlib.Core.Logic.{◌⊎◌, inl, inr}
-use mathlib.Core.Bool.{true, false}
+use mathlib.Core.Bool.{Bool, true, false}
 use Prim.Native.Nat.{ℕ, ◌+◌, ◌/◌, ◌%◌, ◌<◌, ◌≤◌}
 use native.Mathlib.Omega.{arith}
 use native.Mathlib.Decide.{dec_lt, ℕ_discrete}
-use borrow.Author.Tests.{lt-ltb, le-ltb, le-leb, lt-leb, leb-false, eq-eqb, ne_eqb}
+use borrow.Author.Tests.{lt-ltb, le-ltb, le-leb, lt-leb, leb-true, leb-false, eq-eqb, ne_eqb}
 use Rattle.diagnostics.specs.declared.Refusal.{Refusal}
 use Rattle.diagnostics.specs.Refusal.{refusal_number}
 use Rattle.environment.specs.declared.Register.{Register}
@@ -160,6 +160,11 @@ module _ (w : ℕ) (h : w < word_end) where
 
   pub value_of_inner : value_of (word_end + w) ≡ w
   value_of_inner = omega arith
+
+-- an answer that is a refusal, by what the program asked
+pub refusal_from : {b : Bool} (a : ℕ) → b ≡ is_refusal a → b ≡ true → refusal_start ≤ a
+unfolding is_refusal
+refusal_from a told h = leb-true refusal_start a (sym told ∙ h)
 
 -- the register that an answer is, if it is no refusal
 pub register_value : (a : ℕ) → is_refusal a ≡ false → RegisterOrRefusal a → value_of a < any

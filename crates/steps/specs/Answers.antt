@@ -11,6 +11,7 @@ use Rattle.environment.specs.Registers.{register_count, all_free}
 use Rattle.syntax.specs.declared.ast.Node.{Node}
 use Rattle.runtime.specs.declared.operand.Operand.{Operand}
 use Rattle.lowering.specs.declared.State.{State}
+use Rattle.steps.specs.declared.counted.Counts.{Counts}
 use Rattle.lowering.specs.Tree.{Tree, span_start, span_end}
 use Rattle.lowering.specs.Walk.{Made, Outcome, ends, stops, error}
 use Rattle.lowering.specs.Steps.{with_registers}
@@ -139,8 +140,8 @@ unfoldable pub is_inner : ℕ → Bool
 is_inner a = eqb (a / word_end) 1
 
 -- the state with these counts of instructions and constants
-abbrev pub state_of : RegisterSet → ℕ → ℕ → ℕ → State
-state_of registers instructions constants marks = record { registers = registers; instructions = instructions; constants = constants; marks = marks }
+abbrev pub state_of : RegisterSet → Counts → ℕ → State
+state_of registers counts marks = record { registers = registers; instructions = counts.instructions; constants = counts.constants; marks = marks }
 
 -- an answer that is a refusal, or the register d
 abbrev pub DestOrRefusal : ℕ → ℕ → Type 0

@@ -17,14 +17,6 @@ pub struct AnswerAndState {
     pub answer: u64,
 }
 
-// The counts afterwards, and the answer, of a step that takes and gives back no register. The answer is the same word.
-#[derive(Clone, Copy)]
-pub struct AnswerAndCounts {
-    pub instructions: u32,
-    pub constants: u32,
-    pub answer: u64,
-}
-
 // The word of an operand that is in no register: the node is a literal, which is not pooled yet.
 pub const LITERAL: u32 = 1024;
 

@@ -2,5 +2,6 @@
 #![tactic(auto)]
 
 pub mod answer;
+pub mod counted;
 pub mod sources;
 pub mod step;

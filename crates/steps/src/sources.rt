@@ -1,34 +1,30 @@
 // The end of an operator on two sources. One of them may be LITERAL, a constant: it is pooled, then one instruction is emitted. The functions take two counts and not
 // the state, since no register is taken or given back.
-ghost use Rattle.std.specs.Prelude.{◌≡◌, false, ◌&&◌, List, [], ◌∷◌, ◌≢◌, ℕ, eqb, Option, Some, Ok};
+ghost use Rattle.std.specs.Prelude.{◌≡◌, false, ◌&&◌, List, [], ◌∷◌, ◌≢◌, ℕ, eqb, Option, Some};
 ghost use Rattle.environment.specs.declared.Register.{Register};
 ghost use Rattle.words.specs.Words.{words, tail};
-ghost use Rattle.words.specs.Records.{buffer};
 ghost use Rattle.environment.specs.declared.RegisterSet.{RegisterSet};
 ghost use Rattle.syntax.specs.declared.ops.Comparison.{Comparison};
 ghost use Rattle.runtime.specs.declared.instruction.Instruction.{Instruction};
 ghost use Rattle.runtime.specs.Instruction.{words_of};
 ghost use Rattle.runtime.specs.Opcode.{opcode_number};
-ghost use Rattle.runtime.specs.Function.{store_constant};
 ghost use Rattle.runtime.specs.Operands.{reg_of};
 ghost use Rattle.lowering.specs.Tree.{Tree};
 ghost use Rattle.lowering.specs.Walk.{Walk, made, bind, ret};
-ghost use Rattle.lowering.specs.Steps.{emit};
+ghost use Rattle.lowering.specs.Steps.{emit, store};
 ghost use Rattle.lowering.specs.Operators.{comparison};
 ghost use Rattle.lowering.specs.Lower.{binary_sources, fused_sources};
 ghost use Rattle.operators.specs.Opcodes.{first_of, second_of};
-ghost use Rattle.steps.specs.Answers.{register_at, literal_word, source_at, place_at, settled, seen, state_of, refusal_at, DestOrRefusal, WordOrRefusal};
+ghost use Rattle.steps.specs.Answers.{register_at, literal_word, source_at, place_at, settled, seen, state_of, DestOrRefusal, WordOrRefusal};
 
-use crate::answer::{AnswerAndCounts, LITERAL, refusal_at, reg_of};
-use diagnostics::Refusal;
+use crate::answer::{LITERAL, is_refusal, reg_of, value_of};
+use crate::counted::{AnswerAndCounts, Counts, emit, store};
 use operators::{
     binary_kr, binary_rk, binary_rr, jump_kr, jump_rk, jump_rr, jump_swaps, swaps, swaps_kr,
 };
-use runtime::function::{emit_instruction, store_constant};
 use runtime::opcode::Opcode;
 use runtime::operand::Operand;
 use syntax::ops::BinaryOp;
-use words::Appended;
 
 // The first of two operands in the order in which an instruction has them; the second is the first of the two the other way round.
 pub fn first_of(swap: bool, a: u32, b: u32) -> u32
@@ -37,23 +33,11 @@ pub fn first_of(swap: bool, a: u32, b: u32) -> u32
     if swap { b } else { a }
 }
 
-// No room for an instruction or a constant: nothing is written.
-fn no_room(instructions: u32, pooled: u32, refusal: Refusal) -> AnswerAndCounts
-    ensures { result ≡ record { instructions = instructions; constants = pooled; answer = refusal_at refusal 0 } }
-{
-    AnswerAndCounts {
-        instructions,
-        constants: pooled,
-        answer: refusal_at(refusal, 0),
-    }
-}
-
 // The instruction of an operator, with its result in d.
-#[tactic(auto, using(crate::proofs::Words::refusal_start_lem))]
+#[tactic(auto, using(crate::proofs::Words::refusal_start_lem, crate::proofs::Words::refusal_from))]
 fn binary_end(
     code: &mut [u8],
-    instructions: u32,
-    pooled: u32,
+    counts: Counts,
     opcode: Opcode,
     swap: bool,
     src1: u32,
@@ -62,31 +46,26 @@ fn binary_end(
 ) -> AnswerAndCounts
     ensures step { (t : Tree) (i : Instruction) (rs : RegisterSet) (n : ℕ) (p m : List ℕ) →
         words_of i ≡ opcode_number opcode ∷ reg_of (register_at d) ∷ first_of swap src1 src2 ∷ second_of swap src1 src2 ∷ [] →
-        settled (bind (emit i (made (words code.old) p m (state_of rs instructions pooled n))) (λ x. ret (Operand.Register (register_at d))))
-        ≡ seen t (λ w. Operand.Register (register_at w)) (made (words code.new) p m (state_of rs result.instructions result.constants n)) result.answer }
+        settled (bind (emit i (made (words code.old) p m (state_of rs counts n))) (λ x. ret (Operand.Register (register_at d))))
+        ≡ seen t (λ w. Operand.Register (register_at w)) (made (words code.new) p m (state_of rs result.counts n)) result.answer }
     ensures code { tail code.new ≡ tail code.old }
     ensures word { DestOrRefusal d result.answer }
 {
     let a = first_of(swap, src1, src2);
     let b = first_of(swap, src2, src1);
-    let emitted = emit_instruction(code, instructions, opcode, reg_of(d), a, b);
-    let Ok(_) = emitted.place else {
-        return no_room(instructions, pooled, Refusal::Code);
-    };
-    AnswerAndCounts {
-        instructions: emitted.count,
-        constants: pooled,
-        answer: d as u64,
+    let e = emit(code, counts, opcode, reg_of(d), a, b);
+    if is_refusal(e.answer) {
+        return e;
     }
+    e.counts.answered(d)
 }
 
 // The instruction of an operator where not both sources are literals, with its result in d. What the sources held is given back by the walk.
-#[tactic(auto, using(crate::proofs::Words::refusal_start_lem))]
+#[tactic(auto, using(crate::proofs::Words::refusal_start_lem, crate::proofs::Words::refusal_from))]
 pub fn binary_sources(
     code: &mut [u8],
     constants: &mut [u8],
-    instructions: u32,
-    pooled: u32,
+    counts: Counts,
     operator: BinaryOp,
     src1: u32,
     src2: u32,
@@ -95,23 +74,22 @@ pub fn binary_sources(
 ) -> AnswerAndCounts
     ensures step { (t : Tree) (E : ℕ → Option Register → Walk Operand) (left right : ℕ) (rs : RegisterSet) (n : ℕ) (m : List ℕ) → eqb src1 literal_word && eqb src2 literal_word ≡ false →
         settled (binary_sources (λ x. ret tt) t E operator left right (register_at d) (source_at constant src1) (source_at constant src2)
-        (made (words code.old) (words constants.old) m (state_of rs instructions pooled n)))
-        ≡ seen t (λ w. Operand.Register (register_at w)) (made (words code.new) (words constants.new) m (state_of rs result.instructions result.constants n)) result.answer }
+        (made (words code.old) (words constants.old) m (state_of rs counts n)))
+        ≡ seen t (λ w. Operand.Register (register_at w)) (made (words code.new) (words constants.new) m (state_of rs result.counts n)) result.answer }
     ensures code { tail code.new ≡ tail code.old }
     ensures constants { tail constants.new ≡ tail constants.old }
     ensures word { DestOrRefusal d result.answer }
 {
     if (src1 == LITERAL) | (src2 == LITERAL) {
-        let stored = store_constant(constants, pooled, constant);
-        let Ok(k) = stored.place else {
-            return no_room(instructions, pooled, Refusal::Constants);
-        };
-        let count = stored.count;
+        let stored = store(constants, counts, constant);
+        if is_refusal(stored.answer) {
+            return stored;
+        }
+        let k = value_of(stored.answer);
         if src1 == LITERAL {
             return binary_end(
                 code,
-                instructions,
-                count,
+                stored.counts,
                 binary_kr(operator),
                 swaps_kr(operator),
                 k,
@@ -121,8 +99,7 @@ pub fn binary_sources(
         }
         return binary_end(
             code,
-            instructions,
-            count,
+            stored.counts,
             binary_rk(operator),
             swaps(operator),
             reg_of(src1),
@@ -132,8 +109,7 @@ pub fn binary_sources(
     }
     binary_end(
         code,
-        instructions,
-        pooled,
+        counts,
         binary_rr(operator),
         swaps(operator),
         reg_of(src1),
@@ -142,40 +118,12 @@ pub fn binary_sources(
     )
 }
 
-// A fused jump. Its place is the answer.
-#[tactic(auto, using(crate::proofs::Words::refusal_start_lem))]
-fn jump_end(
-    code: &mut [u8],
-    instructions: u32,
-    pooled: u32,
-    opcode: Opcode,
-    a: u32,
-    b: u32,
-) -> AnswerAndCounts
-    ensures step { (t : Tree) (i : Instruction) (rs : RegisterSet) (n : ℕ) (p m : List ℕ) → words_of i ≡ opcode_number opcode ∷ a ∷ b ∷ 0 ∷ [] →
-        settled (emit i (made (words code.old) p m (state_of rs instructions pooled n)))
-        ≡ seen t place_at (made (words code.new) p m (state_of rs result.instructions result.constants n)) result.answer }
-    ensures code { tail code.new ≡ tail code.old }
-    ensures word { WordOrRefusal result.answer }
-{
-    let emitted = emit_instruction(code, instructions, opcode, a, b, 0);
-    let Ok(n) = emitted.place else {
-        return no_room(instructions, pooled, Refusal::Code);
-    };
-    AnswerAndCounts {
-        instructions: emitted.count,
-        constants: pooled,
-        answer: n as u64,
-    }
-}
-
 // The jump of a comparison where not both sources are literals, taken where it gives `sense`. Its place is the answer.
-#[tactic(auto, using(crate::proofs::Words::refusal_start_lem))]
+#[tactic(auto, using(crate::proofs::Words::refusal_start_lem, crate::proofs::Words::refusal_from))]
 pub fn fused_sources(
     code: &mut [u8],
     constants: &mut [u8],
-    instructions: u32,
-    pooled: u32,
+    counts: Counts,
     sense: bool,
     operator: BinaryOp,
     src1: u32,
@@ -185,50 +133,54 @@ pub fn fused_sources(
     ensures step { (t : Tree) (E : ℕ → Option Register → Walk Operand) (own : Option Register → Walk Operand) (c : Comparison) (rs : RegisterSet) (n : ℕ) (m : List ℕ) →
         eqb src1 literal_word && eqb src2 literal_word ≡ false → comparison operator ≡ Some c →
         settled (fused_sources t E sense own c (source_at constant src1) (source_at constant src2)
-        (made (words code.old) (words constants.old) m (state_of rs instructions pooled n)))
-        ≡ seen t place_at (made (words code.new) (words constants.new) m (state_of rs result.instructions result.constants n)) result.answer }
+        (made (words code.old) (words constants.old) m (state_of rs counts n)))
+        ≡ seen t place_at (made (words code.new) (words constants.new) m (state_of rs result.counts n)) result.answer }
     ensures code { tail code.new ≡ tail code.old }
     ensures constants { tail constants.new ≡ tail constants.old }
     ensures word { WordOrRefusal result.answer }
 {
     if (src1 == LITERAL) | (src2 == LITERAL) {
-        let stored = store_constant(constants, pooled, constant);
-        let Ok(k) = stored.place else {
-            return no_room(instructions, pooled, Refusal::Constants);
-        };
-        let count = stored.count;
+        let stored = store(constants, counts, constant);
+        if is_refusal(stored.answer) {
+            return stored;
+        }
+        let k = value_of(stored.answer);
         if src1 == LITERAL {
             let opcode = jump_kr(sense, operator);
-            return jump_end(code, instructions, count, opcode, reg_of(src2), k);
+            return emit(code, stored.counts, opcode, reg_of(src2), k, 0);
         }
         let opcode = jump_rk(sense, operator);
-        return jump_end(code, instructions, count, opcode, reg_of(src1), k);
+        return emit(code, stored.counts, opcode, reg_of(src1), k, 0);
     }
     let opcode = jump_rr(sense, operator);
     let swap = jump_swaps(sense, operator);
     let a = reg_of(src1);
     let b = reg_of(src2);
-    jump_end(
+    emit(
         code,
-        instructions,
-        pooled,
+        counts,
         opcode,
         first_of(swap, a, b),
         first_of(swap, b, a),
+        0,
     )
 }
 
-// The field of a source: its register, or the place of its constant, which is pooled. The count is that of the constants afterwards.
-pub fn field_of(constants: &mut [u8], count: u32, src: u32, constant: Operand) -> Appended
-    ensures literal { src ≡ literal_word → buffer (words constants.new) result ≡ store_constant (words constants.old) count constant }
-    ensures register { src ≢ literal_word → (result ≡ record { count = count; place = Ok (reg_of (register_at src)) }) × (words constants.new ≡ words constants.old) }
+// The field of a source: its register, or the place of its constant, which is pooled. It is the answer.
+pub fn field_of(
+    constants: &mut [u8],
+    counts: Counts,
+    src: u32,
+    constant: Operand,
+) -> AnswerAndCounts
+    ensures literal { src ≡ literal_word → (t : Tree) (rs : RegisterSet) (n : ℕ) (k m : List ℕ) →
+        settled (store constant (made k (words constants.old) m (state_of rs counts n))) ≡ seen t place_at (made k (words constants.new) m (state_of rs result.counts n)) result.answer }
+    ensures register { src ≢ literal_word → (result ≡ record { counts = counts; answer = reg_of (register_at src) }) × (words constants.new ≡ words constants.old) }
     ensures tail { tail constants.new ≡ tail constants.old }
+    ensures word { WordOrRefusal result.answer }
 {
     if src == LITERAL {
-        return store_constant(constants, count, constant);
+        return store(constants, counts, constant);
     }
-    Appended {
-        count,
-        place: Ok(reg_of(src)),
-    }
+    counts.answered(reg_of(src))
 }

@@ -1,22 +1,26 @@
 // The steps on the state: a destination, and a constant loaded. Each contract equates the outcome with that of the definition's step, whatever stands in
 // the buffers that it does not touch.
-ghost use Rattle.std.specs.Prelude.{◌≡◌, List, ℕ, ◌-◌};
+ghost use Rattle.std.specs.Prelude.{◌≡◌, List, [], ◌∷◌, ℕ, ◌-◌};
 ghost use Rattle.words.specs.Words.{words, tail};
+ghost use Rattle.environment.specs.Registers.{given_back};
+ghost use Rattle.runtime.specs.declared.instruction.Instruction.{Instruction};
+ghost use Rattle.runtime.specs.Instruction.{words_of};
+ghost use Rattle.runtime.specs.Opcode.{opcode_number};
 ghost use Rattle.lowering.specs.Tree.{Tree};
 ghost use Rattle.lowering.specs.Walk.{made};
-ghost use Rattle.lowering.specs.Steps.{destination, load_constant, put_offset};
-ghost use Rattle.steps.specs.Answers.{register_at, dest_of, settled, seen, Aimed, RegisterOrRefusal};
+ghost use Rattle.lowering.specs.Steps.{destination, emit, store, load_constant, put_offset};
+ghost use Rattle.steps.specs.Answers.{register_at, dest_of, place_at, settled, seen, Aimed, RegisterOrRefusal, WordOrRefusal};
 
-use crate::answer::{AnswerAndState, answered, is_refusal, refused, reg_of, value_of};
+use crate::answer::{AnswerAndState, answered, is_refusal, refused, value_of};
+use crate::counted::{self, Counts, constant_into};
 use diagnostics::Refusal;
 use lowering::State;
 use patch::put_offset;
-use runtime::function::{emit_instruction, store_constant};
 use runtime::opcode::Opcode;
 use runtime::operand::Operand;
 
 // The register asked for, else the smallest free one, which is taken.
-#[tactic(auto, using(crate::proofs::Words::refusal_start_lem))]
+#[tactic(auto, using(crate::proofs::Words::refusal_start_lem, crate::proofs::Words::refusal_from))]
 pub fn destination(state: State, dest: Option<u32>) -> AnswerAndState
     ensures step { (t : Tree) (k p m : List ℕ) → settled (destination (dest_of dest) (made k p m state)) ≡ seen t register_at (made k p m result.state) result.answer }
     ensures word { Aimed dest → RegisterOrRefusal result.answer }
@@ -34,7 +38,7 @@ pub fn destination(state: State, dest: Option<u32>) -> AnswerAndState
 }
 
 // Destination, pool, LoadConst.
-#[tactic(auto, using(crate::proofs::Words::refusal_start_lem))]
+#[tactic(auto, using(crate::proofs::Words::refusal_start_lem, crate::proofs::Words::refusal_from))]
 pub fn load_constant(
     code: &mut [u8],
     constants: &mut [u8],
@@ -52,19 +56,41 @@ pub fn load_constant(
     if is_refusal(r.answer) {
         return r;
     }
+    let s = r.state;
     let d = value_of(r.answer);
-    let mut s = r.state;
-    let pooled = store_constant(constants, s.constants, constant);
-    let Ok(k) = pooled.place else {
-        return refused(s, Refusal::Constants, 0);
-    };
-    s.constants = pooled.count;
-    let emitted = emit_instruction(code, s.instructions, Opcode::LoadConst, reg_of(d), k, 0);
-    let Ok(_) = emitted.place else {
-        return refused(s, Refusal::Code, 0);
-    };
-    s.instructions = emitted.count;
-    answered(s, d)
+    let f = constant_into(code, constants, Counts::of(s), constant, d);
+    f.on(s)
+}
+
+// An instruction emitted. Its place is the answer.
+pub fn emit(code: &mut [u8], state: State, opcode: Opcode, a: u32, b: u32, c: u32) -> AnswerAndState
+    ensures step { (t : Tree) (i : Instruction) (p m : List ℕ) → words_of i ≡ opcode_number opcode ∷ a ∷ b ∷ c ∷ [] →
+        settled (emit i (made (words code.old) p m state)) ≡ seen t place_at (made (words code.new) p m result.state) result.answer }
+    ensures code { tail code.new ≡ tail code.old }
+    ensures word { WordOrRefusal result.answer }
+{
+    let f = counted::emit(code, Counts::of(state), opcode, a, b, c);
+    f.on(state)
+}
+
+// A constant pooled. Its place is the answer.
+pub fn store(constants: &mut [u8], state: State, constant: Operand) -> AnswerAndState
+    ensures step { (t : Tree) (k m : List ℕ) → settled (store constant (made k (words constants.old) m state)) ≡ seen t place_at (made k (words constants.new) m result.state) result.answer }
+    ensures constants { tail constants.new ≡ tail constants.old }
+    ensures word { WordOrRefusal result.answer }
+{
+    let f = counted::store(constants, Counts::of(state), constant);
+    f.on(state)
+}
+
+// What a source held is given back.
+pub fn given_back(state: State, src: u32) -> State
+    ensures { result ≡ record { registers = given_back state.registers src; instructions = state.instructions; constants = state.constants; marks = state.marks } }
+{
+    let mut s = state;
+    let held = s.registers;
+    s.registers = held.give_back(src);
+    s
 }
 
 // How far it is from a place to a later one.

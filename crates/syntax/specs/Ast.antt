@@ -1,5 +1,5 @@
 -- "Node, six words: kind, a, b, c, span start, span end. Absent is 4294967295; unused words are 0."
-use Rattle.std.specs.Prelude.{ℕ, ◌+◌, ◌*◌, List, [], ◌∷◌, not, eqb, get_or}
+use Rattle.std.specs.Prelude.{ℕ, ◌+◌, ◌*◌, List, [], ◌∷◌, Option, Some, None, cond, not, eqb, get_or}
 use Rattle.syntax.specs.declared.ast.Node.{Node}
 use Rattle.syntax.specs.Ops.{binary_op, unary_op}
 
@@ -9,6 +9,10 @@ node_width = 6
 
 abbrev pub absent : ℕ
 absent = 4294967295
+
+-- the node that a word names; none where the word is that of an absent one
+unfoldable pub node_of : ℕ → Option ℕ
+node_of word = cond (eqb word absent) None (Some word)
 
 -- the kinds from 0 to 14: what each makes of a, b and c
 abbrev pub node_kinds : List (ℕ → ℕ → ℕ → Node)

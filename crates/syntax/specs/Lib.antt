@@ -1,2 +1,3 @@
 pub mod Ops
+pub mod Kinds
 pub mod Ast

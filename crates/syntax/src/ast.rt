@@ -1,7 +1,7 @@
 // Nodes (kaori's syntax/ast.rs) as records of an arena. A child is the index of a node; a list of children is a part of the tree's list.
 ghost use Rattle.std.specs.Prelude.{◌≡◌};
 ghost use Rattle.words.specs.Words.{words};
-ghost use Rattle.syntax.specs.Ast.{node_word};
+ghost use Rattle.syntax.specs.Ast.{node_of, node_word};
 
 use crate::ops::{BinaryOp, UnaryOp};
 use words::word;
@@ -10,7 +10,7 @@ use words::word;
 pub const NODE_WORDS: usize = 6;
 
 // What stands for an else, a tail or a map's value that is not there.
-pub const ABSENT: u32 = 4294967295;
+const ABSENT: u32 = 4294967295;
 
 #[derive(Drop)]
 pub enum Node {
@@ -61,6 +61,14 @@ pub enum Node {
         first: u32,
         count: u32,
     },
+}
+
+// The node that a word names; none where it stands for one that is not there.
+#[tactic(auto, unfolding(crate::specs::Ast::node_of))]
+pub fn node_of(word: u32) -> Option<u32>
+    ensures { result ≡ node_of word }
+{
+    (word != ABSENT).then_some(word)
 }
 
 // Word k of node i; 0 past the last whole word.

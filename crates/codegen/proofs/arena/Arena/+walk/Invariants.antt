@@ -36,8 +36,11 @@ decreases-lower_expression l = 8 * l.node + 2
 abbrev pub decreases-lower_if : goal.decreases-lower_if
 decreases-lower_if l = 8 * l.node + 1
 
+abbrev pub decreases-lower_jump_if : goal.decreases-lower_jump_if
+decreases-lower_jump_if l = 8 * l.node + 5
+
 abbrev pub decreases-lower_jump_if_false : goal.decreases-lower_jump_if_false
-decreases-lower_jump_if_false l = 8 * l.node + 5
+decreases-lower_jump_if_false l = 8 * l.node + 6
 
 abbrev pub decreases-lower_map : goal.decreases-lower_map
 decreases-lower_map l = 8 * l.node + 1

@@ -5,11 +5,11 @@ use Rattle.codegen.proofs.FlatNodes.{needing_none, needing_given, given_operand,
 use Rattle.codegen.proofs.arena.Arena.binary_into.Goals as goal
 
 pub returns-then-d-eq-NONE-clause-step : goal.returns-then-d-eq-NONE-clause-step
-returns-then-d-eq-NONE-clause-step c = rw (c.left_alone-then-d-eq-NONE.ensures, c.refusal_at.ensures) (λ list rs n checked h. needing_none _ _ _ _ (operand_at _) c.if-d-eq-NONE.true)
+returns-then-d-eq-NONE-clause-step c = rw c.refused.ensures (λ list rs n checked h. needing_none _ _ _ _ (operand_at _) c.if-d-eq-NONE.true)
 
 pub returns-in_default-clause-step : goal.returns-in_default-clause-step
 returns-in_default-clause-step c =
-    rw (c.left_alone-in_default.ensures, c.refusal_at-in_default.ensures)
+    rw c.refused-in_default.ensures
     (λ list rs n checked h.
     needing_given _ _ _ c.if-d-eq-NONE.false
     (binary_of _ _ _ _ _ c.requires.1.0 refl c.node_word-left.ensures c.node_word-right.ensures _ checked _
@@ -18,7 +18,7 @@ returns-in_default-clause-step c =
 pub returns-in_default-leaf_operand-clause-step : goal.returns-in_default-leaf_operand-clause-step
 returns-in_default-leaf_operand-clause-step c =
     let leaves = sym c.are_leaves.ensures ∙ c.if-not-are_leaves.false in
-    rw (c.left_alone-in_default-leaf_operand.ensures, c.refusal_at-in_default-leaf_operand.ensures)
+    rw c.refused-in_default-leaf_operand.ensures
     (λ list rs n checked h.
     needing_given _ _ _ c.if-d-eq-NONE.false
     (binary_of _ _ _ _ _ c.requires.1.0 refl c.node_word-left.ensures c.node_word-right.ensures _ checked _

@@ -8,7 +8,7 @@ use Rattle.codegen.proofs.arena.Arena.compared_leaves.Goals as goal
 pub returns-in_default-clause-step : goal.returns-in_default-clause-step
 returns-in_default-clause-step c =
     let compares = compares_some _ (sym c.is_comparison.ensures ∙ c.if-not-is_comparison.false) in
-    rw (c.left_alone-in_default.ensures, c.refusal_at.ensures)
+    rw c.refused.ensures
     (λ list rs n checked h.
     compared_of _ _ _ _ _ c.requires.1 (rw c.node_word.ensures at c.of-operator.ensures) c.node_word-left.ensures c.node_word-right.ensures _ _ _ _ compares.0 compares.1
     (stop_leaf _ _ _ (c.leaf_operand.ensures.name, c.leaf_operand.ensures.literal) _ _ (λ w. place_at w) c.in_default.is (omega arith)))
@@ -17,7 +17,7 @@ pub returns-in_default-leaf_operand-clause-step : goal.returns-in_default-leaf_o
 returns-in_default-leaf_operand-clause-step c =
     let compares = compares_some _ (sym c.is_comparison.ensures ∙ c.if-not-is_comparison.false) in
     let leaves = sym c.are_leaves.ensures ∙ c.if-not-are_leaves.false in
-    rw (c.left_alone-in_default-leaf_operand.ensures, c.refusal_at-in_default-leaf_operand.ensures)
+    rw c.refused-in_default-leaf_operand.ensures
     (λ list rs n checked h.
     compared_of _ _ _ _ _ c.requires.1 (rw c.node_word.ensures at c.of-operator.ensures) c.node_word-left.ensures c.node_word-right.ensures _ _ _ _ compares.0 compares.1
     (then_leaf _ _ _ (c.leaf_operand.ensures.name, c.leaf_operand.ensures.literal) c.in-Some.is _ _ (left_leaf _ _ _ leaves)

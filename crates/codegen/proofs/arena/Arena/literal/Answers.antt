@@ -1,21 +1,26 @@
--- `codegen::read::literal` meets its contract, kind by kind.
-use Rattle.std.proofs.Common.{sym, ◌∙◌, arith}
+-- `codegen::arena::literal` meets its contract, kind by kind.
+use Rattle.std.proofs.Common.{sym, arith}
+use Rattle.syntax.specs.declared.kind.Kind.{Kind}
 use Rattle.syntax.specs.Ast.{node_at}
 use Rattle.lowering.specs.Literals.{literal}
-use Rattle.codegen.proofs.Reading.{node_other}
+use Rattle.codegen.proofs.Reading.{kind_is, kind_is_not, node_other}
 use Rattle.codegen.proofs.arena.Arena.literal.Goals as goal
 
-pub returns-in-0 : goal.returns-in-0
+pub returns-then-eq : goal.returns-then-eq
 unfolding literal node_at
-returns-in-0 c = rw (sym c.node_word-kind.ensures ∙ c.in-0.is, ← c.node_word-a.ensures, ← c.node_word-b.ensures, c.number-x.ensures)
+returns-then-eq c = rw (kind_is _ Kind.Number c.kind-kind.ensures c.eq.ensures c.if-eq.true, ← c.node_word-a.ensures, ← c.node_word-b.ensures, c.number.ensures)
 
-pub returns-in-1 : goal.returns-in-1
+pub returns-then-eq-2 : goal.returns-then-eq-2
 unfolding literal node_at
-returns-in-1 c = rw (sym c.node_word-kind.ensures ∙ c.in-1.is, ← c.node_word-a.ensures)
+returns-then-eq-2 c = rw (kind_is _ Kind.String c.kind-kind.ensures c.eq-2.ensures c.if-eq-2.true, ← c.node_word-a.ensures)
 
-pub returns-in-2 : goal.returns-in-2
+pub returns-then-eq-3 : goal.returns-then-eq-3
 unfolding literal node_at
-returns-in-2 c = rw (sym c.node_word-kind.ensures ∙ c.in-2.is, ← c.node_word-a.ensures)
+returns-then-eq-3 c = rw (kind_is _ Kind.Boolean c.kind-kind.ensures c.eq-3.ensures c.if-eq-3.true, ← c.node_word-a.ensures)
 
-pub returns-in_default : goal.returns-in_default
-returns-in_default c = sym ((node_other _ _).nil (omega (arith, c.node_word-kind.ensures)))
+pub returns : goal.returns
+returns c =
+    let number = kind_is_not _ Kind.Number c.kind-kind.ensures c.eq.ensures c.if-eq.false in
+    let string = kind_is_not _ Kind.String c.kind-kind.ensures c.eq-2.ensures c.if-eq-2.false in
+    let boolean = kind_is_not _ Kind.Boolean c.kind-kind.ensures c.eq-3.ensures c.if-eq-3.false in
+    sym ((node_other _ _).nil (omega (arith, number, string, boolean)))

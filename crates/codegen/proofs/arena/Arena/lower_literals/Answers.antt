@@ -1,11 +1,9 @@
 -- `codegen::lower_expression::lower_literals` meets its contract: its do-block, a step a line. Assumes nothing.
-use Rattle.std.proofs.Common.{sym, ◌∙◌, inl, arith}
-use Rattle.diagnostics.specs.declared.Refusal.{Refusal}
+use Rattle.std.proofs.Common.{refl, sym, ◌∙◌, inl, arith}
 use Rattle.runtime.specs.declared.operand.Operand.{Operand}
 use Rattle.lowering.specs.Tree.{tree_of}
-use Rattle.steps.specs.Answers.{register_at, settled}
-use Rattle.steps.proofs.Words.{refusal_start_lem}
-use Rattle.steps.proofs.Chains.{seen_word, then_by, stop_by, then_emitted, stop_emitted}
+use Rattle.steps.specs.Answers.{register_at, place_at, settled}
+use Rattle.steps.proofs.Chains.{seen_word, then, then_by, stop_by}
 use Rattle.codegen.proofs.Walk.{then_freed}
 use Rattle.codegen.proofs.Operands.{combined, swapped_fields, one_loaded, two_loaded}
 use Rattle.codegen.proofs.Branches.{by_answer}
@@ -13,7 +11,7 @@ use Rattle.codegen.proofs.Reading.{refused_start}
 use Rattle.codegen.proofs.arena.Arena.lower_literals.Goals as goal
 
 pub returns-then-is_refusal-clause-by_index : goal.returns-then-is_refusal-clause-by_index
-returns-then-is_refusal-clause-by_index c = λ list names.
+returns-then-is_refusal-clause-by_index c list names =
     let t = tree_of c.args.self.now.nodes.now list names in
     one_loaded t c.node_word-left.ensures c.literal.ensures _ _ _ _
     (stop_by t _ register_at _ _ _ (c.load_constant-r1.ensures.step t _) (λ w. Operand.Register (register_at w)) c.is_refusal.ensures c.if-is_refusal.true)
@@ -22,33 +20,32 @@ pub returns-then-is_refusal-clause-word : goal.returns-then-is_refusal-clause-wo
 returns-then-is_refusal-clause-word c = inl (refused_start _ c.is_refusal.ensures c.if-is_refusal.true)
 
 pub returns-then-is_refusal-2-clause-by_index : goal.returns-then-is_refusal-2-clause-by_index
-returns-then-is_refusal-2-clause-by_index c = λ list names.
+returns-then-is_refusal-2-clause-by_index c list names =
     let t = tree_of c.args.self.now.nodes.now list names in
-    two_loaded t (rw c.node_word.ensures at c.of-operator.ensures) c.node_word-left.ensures c.node_word-right.ensures c.literal.ensures c.literal-2.ensures _ _
+    two_loaded t refl c.node_word-left.ensures c.node_word-right.ensures c.literal.ensures c.literal-2.ensures _ _
     (then_by t _ register_at _ _ _ (c.load_constant-r1.ensures.step t _) c.is_refusal.ensures c.if-is_refusal.false c.value_of-src1.ensures
     (stop_by t _ register_at _ _ _ (c.load_constant-r2.ensures.step t _) (λ w. Operand.Register (register_at w)) c.is_refusal-2.ensures c.if-is_refusal-2.true))
 
 pub returns-then-is_refusal-2-clause-word : goal.returns-then-is_refusal-2-clause-word
 returns-then-is_refusal-2-clause-word c = inl (refused_start _ c.is_refusal-2.ensures c.if-is_refusal-2.true)
 
-pub returns-in_default-clause-by_index : goal.returns-in_default-clause-by_index
+pub returns-then-is_refusal-3-clause-by_index : goal.returns-then-is_refusal-3-clause-by_index
 unfolding combined
-returns-in_default-clause-by_index c = λ list names.
+returns-then-is_refusal-3-clause-by_index c list names =
     let t = tree_of c.args.self.now.nodes.now list names in
     let told = c.binary_rr.ensures _ _ _
     ∙ swapped_fields _ c.reg_of-5.ensures c.swaps-swap.ensures c.first_of-a.ensures c.first_of-b.ensures c.reg_of.ensures c.reg_of-2.ensures c.reg_of-4.ensures c.reg_of-3.ensures in
-    by_answer t _ _ _ _ _ (c.refused.ensures.state, c.refused.ensures.answer)
-    (two_loaded t (rw c.node_word.ensures at c.of-operator.ensures) c.node_word-left.ensures c.node_word-right.ensures c.literal.ensures c.literal-2.ensures _ _
+    two_loaded t (rw c.node_word.ensures at c.of-operator.ensures) c.node_word-left.ensures c.node_word-right.ensures c.literal.ensures c.literal-2.ensures _ _
     (then_by t _ register_at _ _ _ (c.load_constant-r1.ensures.step t _) c.is_refusal.ensures c.if-is_refusal.false c.value_of-src1.ensures
     (then_by t _ register_at _ _ _ (c.load_constant-r2.ensures.step t _) c.is_refusal-2.ensures c.if-is_refusal-2.false c.value_of-src2.ensures
-    (stop_emitted t _ _ _ _ told c.emit_instruction-emitted.ensures.words (λ w. Operand.Register (register_at w)) c.in_default.is))))
+    (stop_by t _ place_at _ _ _ (c.emit-e.ensures.step t _ _ _ told) (λ w. Operand.Register (register_at w)) c.is_refusal-3.ensures c.if-is_refusal-3.true)))
 
-pub returns-in_default-clause-word : goal.returns-in_default-clause-word
-returns-in_default-clause-word c = inl (rw c.refused.ensures.answer (refusal_start_lem Refusal.Code 0))
+pub returns-then-is_refusal-3-clause-word : goal.returns-then-is_refusal-3-clause-word
+returns-then-is_refusal-3-clause-word c = inl (refused_start _ c.is_refusal-3.ensures c.if-is_refusal-3.true)
 
 pub returns-clause-by_index : goal.returns-clause-by_index
 unfolding combined settled
-returns-clause-by_index c = λ list names.
+returns-clause-by_index c list names =
     let t = tree_of c.args.self.now.nodes.now list names in
     let told = c.binary_rr.ensures _ _ _
     ∙ swapped_fields _ c.reg_of-5.ensures c.swaps-swap.ensures c.first_of-a.ensures c.first_of-b.ensures c.reg_of.ensures c.reg_of-2.ensures c.reg_of-4.ensures c.reg_of-3.ensures in
@@ -56,7 +53,7 @@ returns-clause-by_index c = λ list names.
     (two_loaded t (rw c.node_word.ensures at c.of-operator.ensures) c.node_word-left.ensures c.node_word-right.ensures c.literal.ensures c.literal-2.ensures _ _
     (then_by t _ register_at _ _ _ (c.load_constant-r1.ensures.step t _) c.is_refusal.ensures c.if-is_refusal.false c.value_of-src1.ensures
     (then_by t _ register_at _ _ _ (c.load_constant-r2.ensures.step t _) c.is_refusal-2.ensures c.if-is_refusal-2.false c.value_of-src2.ensures
-    (then_emitted t _ _ _ _ told c.emit_instruction-emitted.ensures.words c.in-Ok.is
+    (then t _ place_at _ _ _ (c.emit-e.ensures.step t _ _ _ told) (sym c.is_refusal-3.ensures ∙ c.if-is_refusal-3.false)
     (then_freed _ _ _ c.give_back-held1.ensures
     (then_freed _ _ _ c.give_back-held2.ensures
     (sym (seen_word t (λ w. Operand.Register (register_at w)) _ _ (omega (arith, c.ranges.d))))))))))

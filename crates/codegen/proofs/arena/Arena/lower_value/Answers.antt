@@ -1,11 +1,11 @@
 -- `codegen::lower_value` meets its contract. Assumes nothing.
-use Rattle.std.proofs.Common.{refl}
+use Rattle.std.proofs.Common.{refl, sym, ◌∙◌}
 use Rattle.runtime.specs.declared.instruction.Instruction.{Instruction}
 use Rattle.runtime.specs.Instruction.{words_of}
 use Rattle.lowering.specs.Tree.{tree_of}
 use Rattle.lowering.specs.Result.{lower_root}
 use Rattle.steps.specs.Answers.{place_at}
-use Rattle.steps.proofs.Chains.{then_by, stop_by, then_emitted, stop_emitted}
+use Rattle.steps.proofs.Chains.{then, then_by, stop_by}
 use Rattle.codegen.proofs.Children.{register_of}
 use Rattle.codegen.proofs.arena.Arena.lower_value.Goals as goal
 
@@ -16,14 +16,14 @@ returns-then-is_refusal-clause-lowers c =
     let value = register_of checked c.peek-f.ensures.inner c.lower_materializing-r.ensures.walked c.lower_materializing-r.ensures.done (λ h. c.peek-f.ensures.register _ checked h refl) in
     stop_by _ _ _ _ _ _ value place_at c.is_refusal.ensures c.if-is_refusal.true
 
-pub returns-in_default-clause-lowers : goal.returns-in_default-clause-lowers
+pub returns-then-is_refusal-2-clause-lowers : goal.returns-then-is_refusal-2-clause-lowers
 unfolding lower_root words_of
-returns-in_default-clause-lowers c =
+returns-then-is_refusal-2-clause-lowers c =
+    let t = tree_of c.args.self.now.nodes.now c.args.self.now.list.now c.args.self.now.names.now in
     let checked = c.args.self.now.checked in
     let value = register_of checked c.peek-f.ensures.inner c.lower_materializing-r.ensures.walked c.lower_materializing-r.ensures.done (λ h. c.peek-f.ensures.register _ checked h refl) in
-    rw (c.refused.ensures.state, c.refused.ensures.answer)
-    (then_by _ _ _ _ _ _ value c.is_refusal.ensures c.if-is_refusal.false c.value_of-src.ensures
-    (stop_emitted _ _ _ _ (Instruction.Return _) (rw c.reg_of.ensures) c.emit_instruction-emitted.ensures.words place_at c.in_default.is))
+    then_by t _ _ _ _ _ value c.is_refusal.ensures c.if-is_refusal.false c.value_of-src.ensures
+    (stop_by t _ place_at _ _ _ (c.emit-e.ensures.step t (Instruction.Return _) _ _ (rw c.reg_of.ensures refl)) place_at c.is_refusal-2.ensures c.if-is_refusal-2.true)
 
 pub returns-clause-lowers : goal.returns-clause-lowers
 unfolding lower_root words_of
@@ -32,5 +32,5 @@ returns-clause-lowers c =
     let checked = c.args.self.now.checked in
     let value = register_of checked c.peek-f.ensures.inner c.lower_materializing-r.ensures.walked c.lower_materializing-r.ensures.done (λ h. c.peek-f.ensures.register _ checked h refl) in
     then_by t _ _ _ _ _ value c.is_refusal.ensures c.if-is_refusal.false c.value_of-src.ensures
-    (then_emitted t _ _ _ (Instruction.Return _) (rw c.reg_of.ensures) c.emit_instruction-emitted.ensures.words c.in-Ok.is
+    (then t _ place_at _ _ _ (c.emit-e.ensures.step t (Instruction.Return _) _ _ (rw c.reg_of.ensures refl)) (sym c.is_refusal-2.ensures ∙ c.if-is_refusal-2.false)
     (c.patch_and_answer.ensures.step _ _))

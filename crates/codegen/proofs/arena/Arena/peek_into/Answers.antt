@@ -1,5 +1,5 @@
 -- `codegen::flat::peek_into` meets its contract: the node that the child comes to is flat, and its value is in d, or it is left to the walk.
-use Rattle.std.proofs.Common.{◌∙◌, ap, arith, ◌<◌}
+use Rattle.std.proofs.Common.{refl, ◌∙◌, ap, arith, ◌<◌}
 use Rattle.steps.specs.Answers.{word_end, settled}
 use Rattle.codegen.proofs.Peek.{simple_kind, inner_only, was_flat, left_over, flat_into}
 use Rattle.codegen.proofs.arena.Arena.peek_into.Goals as goal
@@ -10,25 +10,29 @@ returns-then-is_simple-clause-done c =
     let small : c.tail_of-tail.result < word_end = omega (arith, c.tail_of-tail.ensures.inside.1) in
     let tried = c.lower_flat-f.ensures in
     let simple = simple_kind _ c.is_simple.ensures c.if-is_simple.true in
-    λ list checked told.
+    rw c.on.ensures
+    (λ list checked told.
     ap settled (tail.same list _ _ _ checked)
-    ∙ flat_into checked _ _ _ _ _ simple c.requires.1 (tried.step list _ _ checked (was_flat _ _ _ small tried.inner told))
+    ∙ flat_into checked _ _ _ _ _ simple c.requires.1
+    (rw c.of.ensures at (tried.step list c.args.state.registers c.args.state.marks checked (was_flat _ _ _ small tried.inner told))))
 
 pub returns-then-is_simple-clause-inner : goal.returns-then-is_simple-clause-inner
 returns-then-is_simple-clause-inner c =
     let tail = c.tail_of-tail.ensures in
     let small : c.tail_of-tail.result < word_end = omega (arith, c.tail_of-tail.ensures.inside.1) in
     let tried = c.lower_flat-f.ensures in
-    λ over. let left = left_over _ _ _ small tried.inner tried.word over in ((rw left.0, left.1), (rw left.2 tail.inside.1, rw left.2 left.3))
+    rw c.on.ensures
+    (λ over. let left = left_over _ _ _ small tried.inner tried.word over in ((rw (left.0, c.of.ensures) refl, left.1), (rw left.2 tail.inside.1, rw left.2 left.3)))
 
 pub returns-then-is_simple-clause-same : goal.returns-then-is_simple-clause-same
 returns-then-is_simple-clause-same c =
     let tail = c.tail_of-tail.ensures in
     let small : c.tail_of-tail.result < word_end = omega (arith, c.tail_of-tail.ensures.inside.1) in
     let tried = c.lower_flat-f.ensures in
-    λ list e m checked over. let left = left_over _ _ _ small tried.inner tried.word over in rw left.2 (tail.same list _ e m checked)
+    rw c.on.ensures
+    (λ list e m checked over. let left = left_over _ _ _ small tried.inner tried.word over in rw left.2 (tail.same list _ e m checked))
 
-pub returns-else-is_simple-clause-done : goal.returns-else-is_simple-clause-done
-returns-else-is_simple-clause-done c =
+pub returns-clause-done : goal.returns-clause-done
+returns-clause-done c =
     let small : c.tail_of-tail.result < word_end = omega (arith, c.tail_of-tail.ensures.inside.1) in
-    λ list checked told. absurd (inner_only _ _ c.inner-answer.ensures small told)
+    λ list checked told. absurd (inner_only _ _ c.inner.ensures small told)

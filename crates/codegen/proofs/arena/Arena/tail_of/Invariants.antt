@@ -2,8 +2,8 @@
 use Rattle.codegen.proofs.Reading.{Comes}
 use Rattle.codegen.proofs.arena.Arena.tail_of.Given as goal
 
-abbrev pub invariant-loop-tail : goal.invariant-loop-tail
-invariant-loop-tail l = Comes l.self.nodes.now l.node l.n
+abbrev pub invariant-loop-n : goal.invariant-loop-n
+invariant-loop-n l = Comes l.self.nodes.now l.node l.n
 
-abbrev pub decreases-loop-tail : goal.decreases-loop-tail
-decreases-loop-tail l = l.n
+abbrev pub decreases-loop-n : goal.decreases-loop-n
+decreases-loop-n l = l.n
