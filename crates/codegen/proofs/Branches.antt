@@ -43,6 +43,11 @@ pub by_answer : {A : Type 0} (t : Tree) (gives : ℕ → A) (code pool marks : L
     o ≡ seen t gives (made code pool marks s) w → o ≡ seen t gives (made code pool marks r.state) r.answer
 by_answer t gives code pool marks r same q = rw (same.0, same.1) q
 
+-- by what a step on the counts answers of a state
+pub counted_on : {A : Type 0} (t : Tree) (gives : ℕ → A) (code pool marks : List ℕ) {s : State} {a : ℕ} {r : AnswerAndState} {o : Outcome A} → r ≡ record { state = s; answer = a } →
+    o ≡ seen t gives (made code pool marks s) a → o ≡ seen t gives (made code pool marks r.state) r.answer
+counted_on t gives code pool marks same q = rw same q
+
 -- a refusal that names a node
 refused_at : {A : Type 0} (t : Tree) (gives : ℕ → A) (refusal : Refusal) (i : ℕ) (m : Made) → names_node refusal ≡ true → i < word_end →
     settled (refuse t refusal i m) ≡ seen t gives m (refusal_at refusal i)

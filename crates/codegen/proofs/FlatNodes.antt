@@ -5,7 +5,7 @@ use Prim.Native.Nat.{ℕ, ◌/◌, ◌<◌, ◌≤◌}
 use native.Mathlib.Omega.{arith}
 use native.Mathlib.Decide.{ℕ_discrete}
 use mathlib.Core.Path.{◌≡◌, refl, sym, ◌∙◌}
-use mathlib.Core.Logic.{◌≢◌, inl, inr}
+use mathlib.Core.Logic.{◌≢◌, ◌⊎◌, inl, inr}
 use mathlib.Core.Bool.{Bool, true, false, cond, ◌&&◌, ◌||◌, and-false, false≢true}
 use mathlib.Core.List.{List}
 use lib.Dec.{eqb, leb}
@@ -27,7 +27,7 @@ use Rattle.lowering.specs.Walk.{Made, Outcome, ends, stops, Walk, bind, ◌>>=�
 use Rattle.lowering.specs.Steps.{free_temp, destination, emit, load_constant}
 use Rattle.lowering.specs.Operators.{comparison, jump_if}
 use Rattle.lowering.specs.Literals.{literal}
-use Rattle.lowering.specs.Lower.{source, materialized, lower_materializing, moved, lower_name, test, binary_sources, fused_sources, fuse, jump_node}
+use Rattle.lowering.specs.Lower.{Source, source, materialized, lower_materializing, moved, lower_name, test, binary_sources, fused_sources, fuse, jump_node}
 use Rattle.lowering.specs.Lower.{lower_expression}
 use Rattle.lowering.proofs.Destinations.{Stays, binary_locals, node_kind}
 use Rattle.steps.specs.Answers.{none, register_at, literal_word, operand_at, source_at, word_end, refusal_start, refusal_at, is_refusal, error_at, names_node, settled, seen}
@@ -39,7 +39,7 @@ use Rattle.codegen.specs.Ready.{node_word_of}
 use Rattle.codegen.specs.Kinds.{name_kind, binary_kind}
 use Rattle.codegen.specs.Flat.{Given, are_leaves, is_flat, found_at, LocalOr, needing, flat_literal, name_dest, flat_node}
 use Rattle.codegen.proofs.Walk.{is_literal_lem, literal_expression}
-use Rattle.codegen.proofs.Operands.{operator_of, both_constant, one_literal, first_source, second_source}
+use Rattle.codegen.proofs.Operands.{operator_of, both_constant}
 use Rattle.codegen.proofs.Reading.{named_at, local_word}
 
 -- ---- a register that is needed
@@ -245,46 +245,56 @@ module _ (nodes : List ℕ) (left right : ℕ) (leaves : are_leaves nodes left r
   pub right_leaf : node_word_of nodes right 0 ≤ name_kind
   right_leaf = leb-true (node_word_of nodes right 0) name_kind asked.1.0
 
-  module _ (list names : List ℕ) {o₁ o₂ : Option ℕ} {w₁ w₂ : ℕ} (a : Leaf (tree_of nodes list names) left o₁) (b : Leaf (tree_of nodes list names) right o₂)
-      (declared₁ : o₁ ≡ Some w₁) (declared₂ : o₂ ≡ Some w₂) where
-    -- one of them is a name
-    pub not_both : eqb w₁ literal_word && eqb w₂ literal_word ≡ false
-    not_both = go (ℕ_discrete (node_word_of nodes left 0) name_kind)
-      where
-        go : Dec (node_word_of nodes left 0 ≡ name_kind) → eqb w₁ literal_word && eqb w₂ literal_word ≡ false
-        go (yes e) = rw (ne_eqb w₁ literal_word (name_word (a.0 e).1 declared₁))
-        go (no e) =
-            let named = eqb-true (node_word_of nodes right 0) name_kind (rw (ne_eqb (node_word_of nodes left 0) name_kind e) at asked.1.1) in
-            rw (ne_eqb w₂ literal_word (name_word (b.0 named).1 declared₂)) (and-false (eqb w₁ literal_word))
+  module _ (list names : List ℕ) where
+    abbrev tree : Tree
+    tree = tree_of nodes list names
 
-    -- c: the constant that one of them is
-    module _ (E : ℕ → Option Register → Walk Operand) (m : Made) (c : Operand)
-        (is : c ≡ one_literal (literal (node (tree_of nodes list names) left)) (literal (node (tree_of nodes list names) right)) w₁ w₂) where
-      left_source : source (operand_at (node (tree_of nodes list names) left) w₁) ≡ source_at c w₁
-      left_source = source_operand (node (tree_of nodes list names) left) w₁ ∙ rw is (sym (first_source _ _ w₁ w₂))
+    -- the leaf whose name is not declared
+    pub stop_leaves : {leaf : ℕ} → ((leaf ≡ left) × Leaf tree left None) ⊎ ((leaf ≡ right) × (((v : ℕ) × Leaf tree left (Some v)) × Leaf tree right None)) → left < word_end → right < word_end →
+        {B : Type 0} (m : Made) (k : Operand → Operand → Walk B) (gives : ℕ → B) →
+        settled (bind (lower_expression free_temp tree left None m) (λ a n. bind (lower_expression free_temp tree right None n) (k a))) ≡ seen tree gives m (refusal_at Refusal.Undeclared leaf)
+    stop_leaves (inl l) small small' m k gives = rw l.0 (stop_leaf tree left None l.1 m _ gives refl small)
+    stop_leaves (inr r) small small' m k gives =
+        rw r.0 (then_leaf tree left (Some r.1.0.0) r.1.0.1 refl m _ left_leaf (stop_leaf tree right None r.1.1 m _ gives refl small'))
 
-      right_source : source (operand_at (node (tree_of nodes list names) right) w₂) ≡ source_at c w₂
-      right_source = source_operand (node (tree_of nodes list names) right) w₂ ∙ rw is (sym (second_source _ _ w₁ w₂ not_both))
+    -- both words
+    module _ {v w : ℕ} (both : Leaf tree left (Some v) × Leaf tree right (Some w)) where
+      pub then_leaves : {B : Type 0} (m : Made) (k : Operand → Operand → Walk B) {r : Outcome B} → settled (k (operand_at (node tree left) v) (operand_at (node tree right) w) m) ≡ r →
+          settled (bind (lower_expression free_temp tree left None m) (λ a n. bind (lower_expression free_temp tree right None n) (k a))) ≡ r
+      then_leaves m k q = then_leaf tree left (Some v) both.0 refl m _ left_leaf (then_leaf tree right (Some w) both.1 refl m _ right_leaf q)
 
-      -- an operator: nothing is given back
-      pub binary_leaves : (operator : BinaryOp) (d : Register) {r : Outcome Operand} →
-          settled (binary_sources (λ x. ret tt) (tree_of nodes list names) E operator left right d (source_at c w₁) (source_at c w₂) m) ≡ r →
-          settled (binary_sources free_temp (tree_of nodes list names) E operator left right d
-          (source (operand_at (node (tree_of nodes list names) left) w₁)) (source (operand_at (node (tree_of nodes list names) right) w₂)) m) ≡ r
-      binary_leaves operator d q =
-          rw (
-            left_source,
-            right_source,
-            binary_locals (tree_of nodes list names) E operator left right d (source_at c w₁) (source_at c w₂) (both_constant c c w₁ w₂ ∙ not_both)
-                (stays (tree_of nodes list names) left o₁ a declared₁ c) (stays (tree_of nodes list names) right o₂ b declared₂ c) m,
-          ) q
+      -- one of them is a name
+      pub not_both : eqb v literal_word && eqb w literal_word ≡ false
+      not_both = go (ℕ_discrete (node_word_of nodes left 0) name_kind)
+        where
+          go : Dec (node_word_of nodes left 0 ≡ name_kind) → eqb v literal_word && eqb w literal_word ≡ false
+          go (yes e) = rw (ne_eqb v literal_word (name_word (both.0.0 e).1 refl))
+          go (no e) =
+              let named = eqb-true (node_word_of nodes right 0) name_kind (rw (ne_eqb (node_word_of nodes left 0) name_kind e) at asked.1.1) in
+              rw (ne_eqb w literal_word (name_word (both.1.0 named).1 refl)) (and-false (eqb v literal_word))
 
-      -- a comparison's jump
-      pub fused_leaves : (sense : Bool) (own : Option Register → Walk Operand) (op : Comparison) {r : Outcome ℕ} →
-          settled (fused_sources (tree_of nodes list names) E sense own op (source_at c w₁) (source_at c w₂) m) ≡ r →
-          settled (fused_sources (tree_of nodes list names) E sense own op
-          (source (operand_at (node (tree_of nodes list names) left) w₁)) (source (operand_at (node (tree_of nodes list names) right) w₂)) m) ≡ r
-      fused_leaves sense own op q = rw (left_source, right_source) q
+      module _ (E : ℕ → Option Register → Walk Operand) (m : Made) where
+        abbrev left_source : Source
+        left_source = source_at (literal (node tree left)) v
+
+        abbrev right_source : Source
+        right_source = source_at (literal (node tree right)) w
+
+        -- an operator: nothing is given back
+        pub binary_leaves : (operator : BinaryOp) (d : Register) {r : Outcome Operand} → settled (binary_sources (λ x. ret tt) tree E operator left right d left_source right_source m) ≡ r →
+            settled (binary_sources free_temp tree E operator left right d (source (operand_at (node tree left) v)) (source (operand_at (node tree right) w)) m) ≡ r
+        binary_leaves operator d q =
+            rw (
+              source_operand (node tree left) v,
+              source_operand (node tree right) w,
+              binary_locals tree E operator left right d left_source right_source (both_constant (literal (node tree left)) (literal (node tree right)) v w ∙ not_both)
+                  (stays tree left (Some v) both.0 refl (literal (node tree left))) (stays tree right (Some w) both.1 refl (literal (node tree right))) m,
+            ) q
+
+        -- a comparison's jump
+        pub fused_leaves : (sense : Bool) (own : Option Register → Walk Operand) (op : Comparison) {r : Outcome ℕ} → settled (fused_sources tree E sense own op left_source right_source m) ≡ r →
+            settled (fused_sources tree E sense own op (source (operand_at (node tree left) v)) (source (operand_at (node tree right) w)) m) ≡ r
+        fused_leaves sense own op q = rw (source_operand (node tree left) v, source_operand (node tree right) w) q
 
 -- ---- an operator by the words of its node
 

@@ -5,7 +5,7 @@ use Prim.Native.Nat.{ℕ, ◌<◌}
 use native.Mathlib.Decide.{ℕ_discrete}
 use mathlib.Core.Path.{◌≡◌, refl, sym, ◌∙◌, subst}
 use mathlib.Core.Logic.{◌≢◌, ◌⊎◌, inl, inr}
-use mathlib.Core.Bool.{Bool, true, false, cond, ◌&&◌, true≢false, false≢true}
+use mathlib.Core.Bool.{Bool, true, false, cond, ◌&&◌, false≢true}
 use mathlib.Core.List.{List, [], ◌∷◌}
 use lib.Dec.{eqb}
 use borrow.Author.Tests.{eq-eqb, ne_eqb}
@@ -23,7 +23,7 @@ use Rattle.lowering.specs.Walk.{Made, Outcome, ends, Walk, bind, ◌>>=◌, ◌>
 use Rattle.lowering.specs.Steps.{destination, emit, free_temp, store, load_constant}
 use Rattle.lowering.specs.Operators.{unary, binary_rr}
 use Rattle.lowering.specs.Literals.{is_literal, literal}
-use Rattle.lowering.specs.Lower.{Source, register, constant, source, lower_materializing, lower_node, lower_expression, binary_sources}
+use Rattle.lowering.specs.Lower.{register, constant, source, lower_materializing, lower_node, lower_expression, binary_sources}
 use Rattle.lowering.proofs.Destinations.{GivesRegister, expression_register, literal_source, are_constants, free_source, binary_given_back}
 use Rattle.operators.specs.Opcodes.{first_of, second_of}
 use Rattle.steps.specs.Answers.{any, register_at, literal_word, operand_at, source_at, settled, seen, is_refusal, value_of, RegisterOrRefusal}
@@ -132,29 +132,6 @@ both_constant c e v w = go (eqb v literal_word) (eqb w literal_word)
     go true false = refl
     go false true = refl
     go false false = refl
-
--- the literal of one of two sources is each one's, where not both are literals
-module _ (a b : Operand) (src1 src2 : ℕ) where
-  abbrev pub one_literal : Operand
-  one_literal = cond (eqb src1 literal_word) a (cond (eqb src2 literal_word) b Operand.Nil)
-
-  pub first_source : source_at one_literal src1 ≡ source_at a src1
-  unfolding source_at
-  first_source = go (eqb src1 literal_word) (eqb src2 literal_word) (register (register_at src1))
-    where
-      go : (x y : Bool) (r : Source) → cond x (constant (cond x a (cond y b Operand.Nil))) r ≡ cond x (constant a) r
-      go true y r = refl
-      go false y r = refl
-
-  pub second_source : eqb src1 literal_word && eqb src2 literal_word ≡ false → source_at one_literal src2 ≡ source_at b src2
-  unfolding source_at
-  second_source = go (eqb src1 literal_word) (eqb src2 literal_word) (register (register_at src2))
-    where
-      go : (x y : Bool) (r : Source) → x && y ≡ false → cond y (constant (cond x a (cond y b Operand.Nil))) r ≡ cond y (constant b) r
-      go true true r h = absurd (true≢false h)
-      go true false r h = refl
-      go false true r h = refl
-      go false false r h = refl
 
 module _ (t : Tree) where
   -- a node whose word is a literal's is a literal, by what the program asked and read

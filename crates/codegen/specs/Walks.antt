@@ -1,11 +1,15 @@
 -- The tree and the buffers that are lent to the walk, and what a function of the walk does with them.
-use Rattle.std.specs.Prelude.{ℕ, ◌≡◌}
+use Rattle.std.specs.Prelude.{ℕ, ◌≡◌, ◌≢◌, length, Option, Some}
 use Rattle.words.specs.Words.{words}
 use Rattle.lowering.specs.declared.State.{State}
 use Rattle.lowering.specs.Tree.{Tree}
 use Rattle.lowering.specs.Walk.{Walk, Made, made}
 use Rattle.steps.specs.declared.answer.AnswerAndState.{AnswerAndState}
-use Rattle.codegen.specs.Ready.{Lowers}
+use Rattle.steps.specs.Answers.{literal_word}
+use Rattle.environment.specs.Environment.{lookup}
+use Rattle.codegen.specs.Ready.{Lowers, node_word_of}
+use Rattle.codegen.specs.Kinds.{name_kind}
+use Rattle.codegen.specs.Flat.{found_at, LocalOr}
 use Rattle.codegen.specs.declared.arena.Arena.{Arena}
 use Rattle.codegen.specs.declared.arena.Buffers.{Buffers}
 
@@ -31,3 +35,9 @@ NothingDone old new state r = (r.state ≡ state) × Untouched old new
 abbrev pub Walks : {A : Type 0} → (Tree → ℕ → A) → (Tree → Walk A) → Arena → Buffers → Buffers → State → AnswerAndState → Type 0
 Walks gives w a old new state r =
     Lowers gives w a.nodes.now a.list.now a.names.now old.code.now old.constants.now old.marks.now new.code.now new.constants.now new.marks.now state r
+
+-- the operand of a leaf by its word: its name's register, or that of a literal; none where the name is not declared
+abbrev pub LeafWord : Arena → ℕ → Option ℕ → Type 0
+LeafWord a i o =
+    (node_word_of a.nodes.now i 0 ≡ name_kind → (found_at o ≡ lookup (words a.names.now) (length (words a.names.now)) (node_word_of a.nodes.now i 1)) × LocalOr o)
+    × (node_word_of a.nodes.now i 0 ≢ name_kind → o ≡ Some literal_word)

@@ -1,28 +1,31 @@
 // What the walk reads of a node: its words, without a test, and its literal.
-ghost use Rattle.std.specs.Prelude.{◌≡◌, cond, ◌<◌, ◌≤◌, eqb, length};
+ghost use Rattle.std.specs.Prelude.{◌≡◌, ◌&&◌, false, ◌<◌, ◌≤◌, eqb, length};
 ghost use Rattle.words.specs.Words.{words};
 ghost use Rattle.environment.specs.Environment.{lookup};
 ghost use Rattle.syntax.specs.Ast.{node_width, node_at};
 ghost use Rattle.syntax.specs.Kinds.{kind_number};
 ghost use Rattle.lowering.specs.Literals.{literal};
-ghost use Rattle.steps.specs.Answers.{literal_word};
+ghost use Rattle.steps.specs.Answers.{literal_word, source_at, first_source, second_source};
 ghost use Rattle.lowering.specs.Tree.{tree_of};
 ghost use Rattle.lowering.specs.Checked.{Checked};
 ghost use Rattle.codegen.specs.Once.{checked_prop, falling_prop};
 ghost use Rattle.codegen.specs.Ready.{InArena, node_word_of};
+ghost use Rattle.codegen.specs.Kinds.{binary_kind};
 ghost use Rattle.codegen.specs.Flat.{Falling, found_at, LocalOr};
 
 use environment::{Register, lookup};
 use runtime::operand::Operand;
 use runtime::value::number;
 use steps::answer::{LITERAL, local};
+use steps::sources::Sources;
 use syntax::ast::NODE_WORDS;
 use syntax::kind::Kind;
 use words::word;
 
 const NODE_BYTES: usize = 4 * NODE_WORDS;
 
-// The tree that is lowered: what the questions passed.
+// The tree that is lowered: what the questions passed. An arena of indices, since document 01 lends the tree as words, the compiler uses no heap, and definition and walk
+// recurse over the indices.
 #[derive(Clone, Copy, Drop)]
 pub(crate) struct Arena<'a> {
     pub(crate) nodes: &'a [u8],
@@ -83,18 +86,20 @@ impl Arena<'_> {
         Operand::Nil
     }
 
-    // The literal that one of two sources is; nil if none is.
-    pub(crate) fn literal_of(&self, left: u32, right: u32, src1: u32, src2: u32) -> Operand
-        requires { InArena self.now.nodes.now left × InArena self.now.nodes.now right }
-        ensures { result ≡ cond (eqb src1 literal_word) (literal (node_at (words self.now.nodes.now) left)) (cond (eqb src2 literal_word) (literal (node_at (words self.now.nodes.now) right)) Operand.Nil) }
+    // The sources of an operator, by the words that the walk has for its operands, of which one at most is a literal's.
+    pub(crate) fn sources(&self, node: u32, src1: u32, src2: u32) -> Sources
+        requires { InArena self.now.nodes.now node × (node_word_of self.now.nodes.now node 0 ≡ binary_kind) }
+        ensures first { first_source result ≡ source_at (literal (node_at (words self.now.nodes.now) (node_word_of self.now.nodes.now node 2))) src1 }
+        ensures second { eqb src1 literal_word && eqb src2 literal_word ≡ false →
+            second_source result ≡ source_at (literal (node_at (words self.now.nodes.now) (node_word_of self.now.nodes.now node 3))) src2 }
     {
         if src1 == LITERAL {
-            return self.literal(left);
+            return Sources::KR(self.literal(self.node_word(node, 2)), src2);
         }
         if src2 == LITERAL {
-            return self.literal(right);
+            return Sources::RK(src1, self.literal(self.node_word(node, 3)));
         }
-        Operand::Nil
+        Sources::RR(src1, src2)
     }
 
     // The register of a name, if it is declared.

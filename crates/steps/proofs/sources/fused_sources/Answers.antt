@@ -1,30 +1,37 @@
--- `steps::sources::fused_sources` meets its contract: its do-block, a step a line. Assumes nothing.
-use Rattle.std.proofs.Common.{refl, eq-eqb, ne_eqb}
+-- `steps::sources::fused_sources` meets its contract: by where the sources are, its do-block, a step a line. Assumes nothing.
+use Rattle.lowering.specs.Lower.{fused_sources}
 use Rattle.steps.specs.Answers.{place_at}
 use Rattle.steps.proofs.Chains.{then_by, stop_by}
-use Rattle.steps.proofs.OperatorEnds.{fused_pooled, fused_registers}
 use Rattle.steps.proofs.sources.fused_sources.Goals as goal
 
-pub returns-then-is_refusal-clause-step : goal.returns-then-is_refusal-clause-step
-returns-then-is_refusal-clause-step c t E own op rs n m not_both compares =
-    fused_pooled _ _ _ _ _ _ _ _ _ refl not_both c.if-src1-src2.true
-    (stop_by t _ place_at _ _ _ (c.store-stored.ensures.step t rs n _ m) (λ w. place_at w) c.is_refusal.ensures c.if-is_refusal.true)
-
-pub returns-then-src1-eq-LITERAL-clause-step : goal.returns-then-src1-eq-LITERAL-clause-step
-returns-then-src1-eq-LITERAL-clause-step c t E own op rs n m not_both compares =
-    fused_pooled _ _ _ _ _ _ _ _ _ (eq-eqb _ _ c.if-src1-eq-LITERAL.true) not_both c.if-src1-src2.true
-    (then_by t _ place_at _ _ _ (c.store-stored.ensures.step t rs n _ m) c.is_refusal.ensures c.if-is_refusal.false c.value_of-k.ensures
-    (c.emit.ensures.step t _ rs n _ m (rw c.reg_of.ensures (c.jump_kr-opcode.ensures op compares _ _))))
-
-pub returns-then-src1-src2-clause-step : goal.returns-then-src1-src2-clause-step
-returns-then-src1-src2-clause-step c t E own op rs n m not_both compares =
-    fused_pooled _ _ _ _ _ _ _ _ _ (ne_eqb _ _ c.if-src1-eq-LITERAL.false) not_both c.if-src1-src2.true
-    (then_by t _ place_at _ _ _ (c.store-stored.ensures.step t rs n _ m) c.is_refusal.ensures c.if-is_refusal.false c.value_of-k.ensures
-    (c.emit-then-src1-src2.ensures.step t _ rs n _ m (rw c.reg_of-then-src1-src2.ensures (c.jump_rk-opcode.ensures op compares _ _))))
-
-pub returns-clause-step : goal.returns-clause-step
-returns-clause-step c t E own op rs n m not_both compares =
-    fused_registers _ _ _ _ _ _ _ _ _ c.if-src1-src2.false
-    (c.emit-2.ensures.step t _ rs n _ m
-    (rw (c.first_of.ensures, c.first_of-2.ensures, c.jump_swaps-swap.ensures op compares, c.reg_of-a.ensures, c.reg_of-b.ensures)
+pub returns-in-RR-clause-step : goal.returns-in-RR-clause-step
+unfolding fused_sources
+returns-in-RR-clause-step c t E own op rs n m compares =
+    rw c.in-RR.is
+    (c.emit.ensures.step t _ rs n _ m
+    (rw (c.first_of.ensures, c.first_of-in-RR.ensures, c.jump_swaps-swap.ensures op compares, c.reg_of-a.ensures, c.reg_of-b.ensures)
     (c.jump_rr-opcode.ensures op compares _ _)))
+
+pub returns-then-is_refusal-clause-step : goal.returns-then-is_refusal-clause-step
+unfolding fused_sources
+returns-then-is_refusal-clause-step c t E own op rs n m compares =
+    rw c.in-RK.is (stop_by t _ place_at _ _ _ (c.store-stored.ensures.step t rs n _ m) (λ w. place_at w) c.is_refusal.ensures c.if-is_refusal.true)
+
+pub returns-else-is_refusal-clause-step : goal.returns-else-is_refusal-clause-step
+unfolding fused_sources
+returns-else-is_refusal-clause-step c t E own op rs n m compares =
+    rw c.in-RK.is
+    (then_by t _ place_at _ _ _ (c.store-stored.ensures.step t rs n _ m) c.is_refusal.ensures c.if-is_refusal.false c.value_of-k.ensures
+    (c.emit-in-RK.ensures.step t _ rs n _ m (rw c.reg_of.ensures (c.jump_rk-opcode.ensures op compares _ _))))
+
+pub returns-then-is_refusal-2-clause-step : goal.returns-then-is_refusal-2-clause-step
+unfolding fused_sources
+returns-then-is_refusal-2-clause-step c t E own op rs n m compares =
+    rw c.in-KR.is (stop_by t _ place_at _ _ _ (c.store-stored-in-KR.ensures.step t rs n _ m) (λ w. place_at w) c.is_refusal-in-KR.ensures c.if-is_refusal-2.true)
+
+pub returns-else-is_refusal-2-clause-step : goal.returns-else-is_refusal-2-clause-step
+unfolding fused_sources
+returns-else-is_refusal-2-clause-step c t E own op rs n m compares =
+    rw c.in-KR.is
+    (then_by t _ place_at _ _ _ (c.store-stored-in-KR.ensures.step t rs n _ m) c.is_refusal-in-KR.ensures c.if-is_refusal-2.false c.value_of-k-in-KR.ensures
+    (c.emit-in-KR.ensures.step t _ rs n _ m (rw c.reg_of-in-KR.ensures (c.jump_kr-opcode.ensures op compares _ _))))

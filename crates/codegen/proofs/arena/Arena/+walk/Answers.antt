@@ -21,7 +21,7 @@ use Rattle.codegen.proofs.Walk.{below_of, expression_of, then_into, then_freed, 
 use Rattle.codegen.proofs.Children.{child_in, walk_in, operand_of, register_of, into_of}
 use Rattle.codegen.proofs.FlatNodes.{given_operand}
 use Rattle.codegen.proofs.Operands.{register_word, operated, single_words, single_below, single_of, fetched, property_below, property_of, operator_below, operator_of, both_literal, word_literal, then_literals, then_operator}
-use Rattle.codegen.proofs.Branches.{same_fields, by_answer, lower_logical, logical_below, logical_of, jump_words, if_below, if_of, then_else, stop_else, call_below, call_of, arguments_of, arguments_none, then_argument, marked, stop_unmarked}
+use Rattle.codegen.proofs.Branches.{same_fields, by_answer, counted_on, lower_logical, logical_below, logical_of, jump_words, if_below, if_of, then_else, stop_else, call_below, call_of, arguments_of, arguments_none, then_argument, marked, stop_unmarked}
 use Rattle.codegen.proofs.Conditions.{past, literal_left, literal_value, answered_value, at_meeting, not_compared, compared_kind, compared_below, compared_jump, two_literals, two_sources}
 use Rattle.codegen.proofs.Entries.{below_absent, past_name, valued, leaf_key, key_and_value, store_both, entries_none, entries_again, entries_stop, at_next}
 use Rattle.codegen.proofs.arena.Arena.+walk.Goals as goal
@@ -183,18 +183,22 @@ fuse-returns-then-src1-src2-clause-lowers t c =
     (then_by _ _ _ _ _ _ right c.is_refusal-2.ensures c.if-is_refusal-2.false c.value_of-src2.ensures
     (two_literals _ _ c.requires.1 c.node_word-left.ensures c.node_word-right.ensures _ _ _ _ k _ _ c.if-src1-src2.true c.test.ensures.lowers)))
 
-pub fuse-fused_jump-requires : goal.fuse-fused_jump-requires
-fuse-fused_jump-requires t c = (c.requires.0, compared_kind _ _ c.requires.1)
+pub fuse-fused_jump-f-requires : goal.fuse-fused_jump-f-requires
+fuse-fused_jump-f-requires t c = (c.requires.0, compared_kind _ _ c.requires.1)
 
 pub fuse-returns-clause-lowers : goal.fuse-returns-clause-lowers
 fuse-returns-clause-lowers t c =
+    let tree = tree_of c.args.self.now.nodes.now c.args.self.now.list.now c.args.self.now.names.now in
     let checked = c.args.self.now.checked in
     let left = operand_of checked c.peek-f1.ensures.inner c.lower_materializing-r1.ensures.walked c.lower_materializing-r1.ensures.done (λ h. c.peek-f1.ensures.operand _ checked h refl) in
     let right = operand_of checked c.peek-f2.ensures.inner c.lower_materializing-r2.ensures.walked c.lower_materializing-r2.ensures.done (λ h. c.peek-f2.ensures.operand _ checked h refl) in
-    compared_jump _ _ c.requires.1 c.node_word-left.ensures c.node_word-right.ensures _ _ _ _
+    rw c.on.ensures
+    (compared_jump _ _ c.requires.1 c.node_word-left.ensures c.node_word-right.ensures _ _ _ _
     (λ k e. then_by _ _ _ _ _ _ left c.is_refusal.ensures c.if-is_refusal.false c.value_of-src1.ensures
     (then_by _ _ _ _ _ _ right c.is_refusal-2.ensures c.if-is_refusal-2.false c.value_of-src2.ensures
-    (two_sources _ _ c.requires.1 c.node_word-left.ensures c.node_word-right.ensures _ _ _ _ k _ _ (c.fused_jump.ensures.step _ _ _ _ k c.if-src1-src2.false e))))
+    (two_sources _ _ c.requires.1 c.node_word-left.ensures c.node_word-right.ensures _ _ _ _ k _ _
+    (rw c.of.ensures at (c.fused_jump-f.ensures.step c.args.self.now.list.now c.args.self.now.names.now c.lower_materializing-r2.result.state.registers c.lower_materializing-r2.result.state.marks
+    (lower_expression free_temp tree) (lower_expression free_temp tree c.args.node) k c.if-src1-src2.false e))))))
 
 -- ---- `logical`: the left side into the destination, the jump, the right side into the same
 
@@ -335,8 +339,8 @@ lower_binary-returns-then-src1-src2-clause-lowers t c =
     (then_literals tree _ c.node_word-left.ensures c.node_word-right.ensures _ _ _ _ both left_literal right_literal
     (c.lower_literals.ensures.by_index _ _ ∙ given_operand _ _ _ _ _ (inr few) c.lower_literals.ensures.word)))))
 
-pub lower_binary-binary_operation-e-requires : goal.lower_binary-binary_operation-e-requires
-lower_binary-binary_operation-e-requires t c = (c.requires.0.0, c.requires.1)
+pub lower_binary-binary_operation-f-requires : goal.lower_binary-binary_operation-f-requires
+lower_binary-binary_operation-f-requires t c = (c.requires.0.0, c.requires.1)
 
 pub lower_binary-returns-then-is_refusal-4-clause-lowers : goal.lower_binary-returns-then-is_refusal-4-clause-lowers
 lower_binary-returns-then-is_refusal-4-clause-lowers t c =
@@ -344,12 +348,14 @@ lower_binary-returns-then-is_refusal-4-clause-lowers t c =
     let checked = c.args.self.now.checked in
     let left = operand_of checked c.peek-f1.ensures.inner c.lower_materializing-r1.ensures.walked c.lower_materializing-r1.ensures.done (λ h. c.peek-f1.ensures.operand _ checked h refl) in
     let right = operand_of checked c.peek-f2.ensures.inner c.lower_materializing-r2.ensures.walked c.lower_materializing-r2.ensures.done (λ h. c.peek-f2.ensures.operand _ checked h refl) in
+    let operated = counted_on _ _ _ _ _ c.on-e.ensures (rw c.of.ensures at (c.binary_operation-f.ensures.step c.args.self.now.list.now c.args.self.now.names.now c.lower_materializing-r2.result.state.registers c.lower_materializing-r2.result.state.marks
+    (lower_expression free_temp tree) c.if-src1-src2.false)) in
     operator_of checked _ c.requires.1 c.node_word-left.ensures c.node_word-right.ensures _ _
     (then_by tree _ register_at _ _ _ (c.destination-t.ensures.step tree _ _ _) c.is_refusal.ensures c.if-is_refusal.false c.value_of-d.ensures
     (then_by tree _ (operand_at _) _ _ _ left c.is_refusal-2.ensures c.if-is_refusal-2.false c.value_of-src1.ensures
     (then_by tree _ (operand_at _) _ _ _ right c.is_refusal-3.ensures c.if-is_refusal-3.false c.value_of-src2.ensures
     (then_operator tree _ c.node_word-left.ensures c.node_word-right.ensures _ _ _ _ c.if-src1-src2.false
-    (stop_by _ _ _ _ _ _ (c.binary_operation-e.ensures.step _ _ _ c.if-src1-src2.false) (operand_at _) c.is_refusal-4.ensures c.if-is_refusal-4.true)))))
+    (stop_by _ _ _ _ _ _ operated (operand_at _) c.is_refusal-4.ensures c.if-is_refusal-4.true)))))
 
 pub lower_binary-returns-clause-lowers : goal.lower_binary-returns-clause-lowers
 unfolding settled
@@ -359,13 +365,15 @@ lower_binary-returns-clause-lowers t c =
     let left = operand_of checked c.peek-f1.ensures.inner c.lower_materializing-r1.ensures.walked c.lower_materializing-r1.ensures.done (λ h. c.peek-f1.ensures.operand _ checked h refl) in
     let right = operand_of checked c.peek-f2.ensures.inner c.lower_materializing-r2.ensures.walked c.lower_materializing-r2.ensures.done (λ h. c.peek-f2.ensures.operand _ checked h refl) in
     let few = register_word _ c.is_refusal.ensures c.if-is_refusal.false c.value_of-d.ensures (c.destination-t.ensures.word c.requires.0.1) in
+    let operated = counted_on _ _ _ _ _ c.on-e.ensures (rw c.of.ensures at (c.binary_operation-f.ensures.step c.args.self.now.list.now c.args.self.now.names.now c.lower_materializing-r2.result.state.registers c.lower_materializing-r2.result.state.marks
+    (lower_expression free_temp tree) c.if-src1-src2.false)) in
     by_answer _ _ _ _ _ _ (c.answered.ensures.state, c.answered.ensures.answer)
     (operator_of checked _ c.requires.1 c.node_word-left.ensures c.node_word-right.ensures _ _
     (then_by tree _ register_at _ _ _ (c.destination-t.ensures.step tree _ _ _) c.is_refusal.ensures c.if-is_refusal.false c.value_of-d.ensures
     (then_by tree _ (operand_at _) _ _ _ left c.is_refusal-2.ensures c.if-is_refusal-2.false c.value_of-src1.ensures
     (then_by tree _ (operand_at _) _ _ _ right c.is_refusal-3.ensures c.if-is_refusal-3.false c.value_of-src2.ensures
     (then_operator tree _ c.node_word-left.ensures c.node_word-right.ensures _ _ _ _ c.if-src1-src2.false
-    (then _ _ _ _ _ _ (c.binary_operation-e.ensures.step _ _ _ c.if-src1-src2.false) (sym c.is_refusal-4.ensures ∙ c.if-is_refusal-4.false)
+    (then _ _ _ _ _ _ operated (sym c.is_refusal-4.ensures ∙ c.if-is_refusal-4.false)
     (then_freed_source _ _ _ _ c.give_back-held1.ensures
     (then_freed_source _ _ _ _ c.give_back-held2.ensures
     (ended _ _ _ _ few)))))))))

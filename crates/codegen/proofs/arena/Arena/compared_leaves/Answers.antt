@@ -1,35 +1,34 @@
 -- `codegen::flat::compared_leaves` meets its contract: its do-block, a step a line.
-use Rattle.std.proofs.Common.{sym, ◌∙◌, arith}
+use Rattle.std.proofs.Common.{sym, ◌∙◌, ap, arith}
+use Rattle.lowering.specs.Tree.{tree_of}
+use Rattle.lowering.specs.Steps.{free_temp}
+use Rattle.lowering.specs.Operators.{comparison}
+use Rattle.lowering.specs.Lower.{lower_expression}
 use Rattle.operators.proofs.Compares.{compares_some}
 use Rattle.steps.specs.Answers.{place_at}
-use Rattle.codegen.proofs.FlatNodes.{compared_of, stop_leaf, then_leaf, left_leaf, right_leaf, not_both, fused_leaves}
+use Rattle.codegen.proofs.FlatNodes.{compared_of, stop_leaves, then_leaves, not_both, fused_leaves}
 use Rattle.codegen.proofs.arena.Arena.compared_leaves.Goals as goal
 
-pub returns-in_default-clause-step : goal.returns-in_default-clause-step
-returns-in_default-clause-step c =
+pub returns-in-Err-clause-step : goal.returns-in-Err-clause-step
+returns-in-Err-clause-step c =
+    let operator_read = rw c.node_word.ensures at c.of-operator.ensures in
     let compares = compares_some _ (sym c.is_comparison.ensures ∙ c.if-not-is_comparison.false) in
+    let leaves = sym c.are_leaves.ensures ∙ c.if-not-are_leaves.false in
     rw c.refused.ensures
     (λ list rs n checked h.
-    compared_of _ _ _ _ _ c.requires.1 (rw c.node_word.ensures at c.of-operator.ensures) c.node_word-left.ensures c.node_word-right.ensures _ _ _ _ compares.0 compares.1
-    (stop_leaf _ _ _ (c.leaf_operand.ensures.name, c.leaf_operand.ensures.literal) _ _ (λ w. place_at w) c.in_default.is (omega arith)))
+    compared_of _ _ _ _ _ c.requires.1 operator_read c.node_word-left.ensures c.node_word-right.ensures _ _ _ _ compares.0 compares.1
+    (stop_leaves _ _ _ leaves list _ (c.leaf_operands.ensures.undeclared _ c.in-Err.is) (omega arith) (omega arith) _ _ (λ w. place_at w)))
 
-pub returns-in_default-leaf_operand-clause-step : goal.returns-in_default-leaf_operand-clause-step
-returns-in_default-leaf_operand-clause-step c =
+pub returns-in-Ok-clause-step : goal.returns-in-Ok-clause-step
+returns-in-Ok-clause-step c =
+    let operator_read = rw c.node_word.ensures at c.of-operator.ensures in
     let compares = compares_some _ (sym c.is_comparison.ensures ∙ c.if-not-is_comparison.false) in
     let leaves = sym c.are_leaves.ensures ∙ c.if-not-are_leaves.false in
-    rw c.refused-in_default-leaf_operand.ensures
-    (λ list rs n checked h.
-    compared_of _ _ _ _ _ c.requires.1 (rw c.node_word.ensures at c.of-operator.ensures) c.node_word-left.ensures c.node_word-right.ensures _ _ _ _ compares.0 compares.1
-    (then_leaf _ _ _ (c.leaf_operand.ensures.name, c.leaf_operand.ensures.literal) c.in-Some.is _ _ (left_leaf _ _ _ leaves)
-    (stop_leaf _ _ _ (c.leaf_operand-2.ensures.name, c.leaf_operand-2.ensures.literal) _ _ (λ w. place_at w) c.in_default-leaf_operand.is (omega arith))))
-
-pub returns-clause-step : goal.returns-clause-step
-returns-clause-step c =
-    let compares = compares_some _ (sym c.is_comparison.ensures ∙ c.if-not-is_comparison.false) in
-    let leaves = sym c.are_leaves.ensures ∙ c.if-not-are_leaves.false in
+    let nodes = c.args.self.now.nodes.now in
+    let names = c.args.self.now.names.now in
+    let words = c.leaf_operands.ensures.operands _ _ c.in-Ok.is in
     λ list rs n checked h.
-    compared_of _ _ _ _ _ c.requires.1 (rw c.node_word.ensures at c.of-operator.ensures) c.node_word-left.ensures c.node_word-right.ensures _ _ _ _ compares.0 compares.1
-    (then_leaf _ _ _ (c.leaf_operand.ensures.name, c.leaf_operand.ensures.literal) c.in-Some.is _ _ (left_leaf _ _ _ leaves)
-    (then_leaf _ _ _ (c.leaf_operand-2.ensures.name, c.leaf_operand-2.ensures.literal) c.in-Some-leaf_operand.is _ _ (right_leaf _ _ _ leaves)
-    (fused_leaves _ _ _ leaves list _ (c.leaf_operand.ensures.name, c.leaf_operand.ensures.literal) (c.leaf_operand-2.ensures.name, c.leaf_operand-2.ensures.literal) c.in-Some.is c.in-Some-leaf_operand.is _ _ _ c.literal_of-constant.ensures _ _ _
-    (c.fused_sources.ensures.step _ _ _ compares.0 rs n _ (not_both _ _ _ leaves list _ (c.leaf_operand.ensures.name, c.leaf_operand.ensures.literal) (c.leaf_operand-2.ensures.name, c.leaf_operand-2.ensures.literal) c.in-Some.is c.in-Some-leaf_operand.is) compares.1))))
+    compared_of _ _ _ _ _ c.requires.1 operator_read c.node_word-left.ensures c.node_word-right.ensures _ _ _ _ compares.0 compares.1
+    (then_leaves _ _ _ leaves list _ words _ _
+    (fused_leaves _ _ _ leaves list _ words _ _ _ _ _
+    (rw (← c.node_word-left.ensures, ← c.node_word-right.ensures) at (c.fused_jump.ensures.step list names rs n (lower_expression free_temp (tree_of nodes list names)) (lower_expression free_temp (tree_of nodes list names) c.args.node) compares.0 (not_both _ _ _ leaves list _ words) (sym (ap comparison operator_read) ∙ compares.1)))))

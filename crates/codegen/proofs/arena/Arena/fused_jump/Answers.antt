@@ -1,12 +1,10 @@
--- `codegen::flat::fused_jump` meets its contract: the literal of one of the two sources is each one's.
+-- `codegen::flat::fused_jump` meets its contract: the comparison of the node, on its sources.
 use Rattle.words.specs.Words.{words}
 use Rattle.lowering.specs.Tree.{tree_of}
-use Rattle.codegen.proofs.Operands.{first_source, second_source}
 use Rattle.codegen.proofs.arena.Arena.fused_jump.Goals as goal
 
 pub returns-clause-step : goal.returns-clause-step
 returns-clause-step c =
-    λ list names E own comparison not_both compared.
-    rw c.on.ensures
-    (rw (c.of.ensures, c.literal_of-constant.ensures, first_source, second_source, c.node_word-right.ensures, c.node_word-left.ensures) at
-    (c.fused_sources-f.ensures.step (tree_of c.args.self.now.nodes.now list names) E own comparison c.args.state.registers c.args.state.marks (words c.args.buffers.now.marks.now) not_both (rw (c.of-operator.ensures, c.node_word.ensures) compared)))
+    λ list names rs n E own comparison not_both compared.
+    rw (c.sources-sources.ensures.first, c.sources-sources.ensures.second not_both) at
+    (c.fused_sources.ensures.step (tree_of c.args.self.now.nodes.now list names) E own comparison rs n (words c.args.buffers.now.marks.now) (rw (c.of-operator.ensures, c.node_word.ensures) compared))
