@@ -330,10 +330,10 @@ module _ (nodes names code code' pool pool' marks marks' : List ℕ) (i : ℕ) (
     (of : counts ≡ record { instructions = s.instructions; constants = s.constants }) (simple : node_word_of nodes i 0 ≤ binary_kind) (small : i < word_end)
     (left : is_flat nodes i ≡ false → (f ≡ record { counts = counts; answer = word_end + i }) × A)
     (word : is_flat nodes i ≡ true → WordOrRefusal f.answer)
-    (tried : (list : List ℕ) (rs : RegisterSet) (n : ℕ) → Checked (tree_of nodes list names) → is_flat nodes i ≡ true →
+    (list : List ℕ) (checked : Checked (tree_of nodes list names)) (tried : (rs : RegisterSet) (n : ℕ) → is_flat nodes i ≡ true →
     settled (flat_node (tree_of nodes list names) asked d i (made code pool marks (state_of rs counts n)))
     ≡ seen (tree_of nodes list names) (operand_at (node_at (words nodes) i)) (made code' pool' marks' (state_of rs f.counts n)) f.answer)
-    (list : List ℕ) (checked : Checked (tree_of nodes list names)) (told : is_inner f.answer ≡ false) where
+    (told : is_inner f.answer ≡ false) where
   pub peeked_operand : asked ≡ Asked.Operand →
       settled (lower_expression free_temp (tree_of nodes list names) i None (made code pool marks s))
       ≡ seen (tree_of nodes list names) (operand_at (node_at (words nodes) i)) (made code' pool' marks' (state_of s'.registers f.counts s'.marks)) f.answer
@@ -341,7 +341,7 @@ module _ (nodes names code code' pool pool' marks marks' : List ℕ) (i : ℕ) (
       let flat = was_flat nodes i f small left told in
       rw (held.0, held.1)
       (flat_operand checked i asked (made code pool marks s) (made code' pool' marks' (state_of s.registers f.counts s.marks)) f.answer d took number simple (word flat)
-      (λ rs. rw of at (tried list rs s.marks checked flat)) q)
+      (λ rs. rw of at (tried rs s.marks flat)) q)
 
   pub peeked_register : asked ≡ Asked.Register →
       settled (lower_materializing (lower_expression free_temp (tree_of nodes list names) i) None (made code pool marks s))
@@ -350,4 +350,4 @@ module _ (nodes names code code' pool pool' marks marks' : List ℕ) (i : ℕ) (
       let flat = was_flat nodes i f small left told in
       rw (held.0, held.1)
       (flat_register checked i asked (made code pool marks s) (made code' pool' marks' (state_of s.registers f.counts s.marks)) f.answer d took number simple (word flat)
-      (λ rs. rw of at (tried list rs s.marks checked flat)) q)
+      (λ rs. rw of at (tried rs s.marks flat)) q)

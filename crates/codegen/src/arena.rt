@@ -102,7 +102,7 @@ impl Arena<'_> {
         Sources::RR(src1, src2)
     }
 
-    // The register of a name, if it is declared.
+    // The register of a name, if it is declared. An Option: where it is not, the refusal names the node, which only the caller knows.
     #[tactic(auto, using(words::proofs::Words::length_words))]
     pub(crate) fn find(&self, name: u32) -> Option<u32>
         ensures found { found_at result ≡ lookup (words self.now.names.now) (length (words self.now.names.now)) name }

@@ -39,7 +39,8 @@ use syntax::ast::node_of;
 use syntax::kind::Kind;
 use syntax::ops::BinaryOp;
 
-// What is asked of a flat node: its operand (a literal stays one), its value in a register, or its value in the register given.
+// What is asked of a flat node: its operand (a literal stays one), its value in a register, or its value in the register given. The register d stands beside it and not in
+// it: `peek` takes one for the first two as well, and what the node needs of it is known afterwards.
 #[derive(Clone, Copy, PartialEq, Eq)]
 pub(crate) enum Asked {
     Operand,
@@ -181,9 +182,9 @@ impl Arena<'_> {
         d: u32,
     ) -> AnswerAndCounts
         requires { InArena self.now.nodes.now node × ((node_word_of self.now.nodes.now node 0 ≡ binary_kind) × Given d) }
-        ensures step { (list : List ℕ) (rs : RegisterSet) (n : ℕ) → Checked (tree_of self.now.nodes.now list self.now.names.now) → are_leaves self.now.nodes.now (node_word_of self.now.nodes.now node 2) (node_word_of self.now.nodes.now node 3) ≡ true →
-            settled (needing d (lower_expression free_temp (tree_of self.now.nodes.now list self.now.names.now) node (Some (register_at d))) (made_of buffers.old (state_of rs counts n)))
-            ≡ seen (tree_of self.now.nodes.now list self.now.names.now) (operand_at (node_at (words self.now.nodes.now) node)) (made_of buffers.new (state_of rs result.counts n)) result.answer }
+        ensures step { (rs : RegisterSet) (n : ℕ) → are_leaves self.now.nodes.now (node_word_of self.now.nodes.now node 2) (node_word_of self.now.nodes.now node 3) ≡ true →
+            settled (needing d (lower_expression free_temp (tree_of self.now.nodes.now self.now.list.now self.now.names.now) node (Some (register_at d))) (made_of buffers.old (state_of rs counts n)))
+            ≡ seen (tree_of self.now.nodes.now self.now.list.now self.now.names.now) (operand_at (node_at (words self.now.nodes.now) node)) (made_of buffers.new (state_of rs result.counts n)) result.answer }
         ensures inner { are_leaves self.now.nodes.now (node_word_of self.now.nodes.now node 2) (node_word_of self.now.nodes.now node 3) ≡ false →
             (result ≡ record { counts = counts; answer = word_end + node }) × Untouched buffers.old buffers.new }
         ensures word { are_leaves self.now.nodes.now (node_word_of self.now.nodes.now node 2) (node_word_of self.now.nodes.now node 3) ≡ true → DestOrRefusal d result.answer }
@@ -215,9 +216,9 @@ impl Arena<'_> {
         d: u32,
     ) -> AnswerAndCounts
         requires { InArena self.now.nodes.now node × (Given d × (asked ≡ Asked.Into → d < any)) }
-        ensures step { (list : List ℕ) (rs : RegisterSet) (n : ℕ) → Checked (tree_of self.now.nodes.now list self.now.names.now) → is_flat self.now.nodes.now node ≡ true →
-            settled (flat_node (tree_of self.now.nodes.now list self.now.names.now) asked d node (made_of buffers.old (state_of rs counts n)))
-            ≡ seen (tree_of self.now.nodes.now list self.now.names.now) (operand_at (node_at (words self.now.nodes.now) node)) (made_of buffers.new (state_of rs result.counts n)) result.answer }
+        ensures step { (rs : RegisterSet) (n : ℕ) → is_flat self.now.nodes.now node ≡ true →
+            settled (flat_node (tree_of self.now.nodes.now self.now.list.now self.now.names.now) asked d node (made_of buffers.old (state_of rs counts n)))
+            ≡ seen (tree_of self.now.nodes.now self.now.list.now self.now.names.now) (operand_at (node_at (words self.now.nodes.now) node)) (made_of buffers.new (state_of rs result.counts n)) result.answer }
         ensures inner { is_flat self.now.nodes.now node ≡ false →
             (result ≡ record { counts = counts; answer = word_end + node }) × Untouched buffers.old buffers.new }
         ensures word { is_flat self.now.nodes.now node ≡ true → WordOrRefusal result.answer }
@@ -258,12 +259,12 @@ impl Arena<'_> {
         asked: Asked,
     ) -> AnswerAndState
         requires { InArena self.now.nodes.now node × (asked ≢ Asked.Into) }
-        ensures operand { (list : List ℕ) → Checked (tree_of self.now.nodes.now list self.now.names.now) → is_inner result.answer ≡ false → asked ≡ Asked.Operand →
-            settled (lower_expression free_temp (tree_of self.now.nodes.now list self.now.names.now) node None (made_of buffers.old state))
-            ≡ seen (tree_of self.now.nodes.now list self.now.names.now) (operand_at (node_at (words self.now.nodes.now) node)) (made_of buffers.new result.state) result.answer }
-        ensures register { (list : List ℕ) → Checked (tree_of self.now.nodes.now list self.now.names.now) → is_inner result.answer ≡ false → asked ≡ Asked.Register →
-            settled (lower_materializing (lower_expression free_temp (tree_of self.now.nodes.now list self.now.names.now) node) None (made_of buffers.old state))
-            ≡ seen (tree_of self.now.nodes.now list self.now.names.now) register_at (made_of buffers.new result.state) result.answer }
+        ensures operand { is_inner result.answer ≡ false → asked ≡ Asked.Operand →
+            settled (lower_expression free_temp (tree_of self.now.nodes.now self.now.list.now self.now.names.now) node None (made_of buffers.old state))
+            ≡ seen (tree_of self.now.nodes.now self.now.list.now self.now.names.now) (operand_at (node_at (words self.now.nodes.now) node)) (made_of buffers.new result.state) result.answer }
+        ensures register { is_inner result.answer ≡ false → asked ≡ Asked.Register →
+            settled (lower_materializing (lower_expression free_temp (tree_of self.now.nodes.now self.now.list.now self.now.names.now) node) None (made_of buffers.old state))
+            ≡ seen (tree_of self.now.nodes.now self.now.list.now self.now.names.now) register_at (made_of buffers.new result.state) result.answer }
         ensures inner { is_inner result.answer ≡ true → NothingDone buffers.old buffers.new state result × ((value_of result.answer ≡ node) × (binary_kind ≤ node_word_of self.now.nodes.now node 0)) }
         ensures kept { Kept buffers.old buffers.new }
     {
@@ -276,6 +277,7 @@ impl Arena<'_> {
             // NONE where no register is free. As an Option it was slower: the flat nodes then took a few per cent more time.
             let register = number_at(place);
             let f = self.lower_flat(buffers, Counts::of(s), node, asked, register);
+            // It was used if it is the answer: a flag would say that a second time.
             if f.answer == (register as u64) {
                 s.registers = set;
             }
@@ -287,7 +289,8 @@ impl Arena<'_> {
         }
     }
 
-    // A flat child in d; a block is its tail. Any other child is left to the walk, by the node that it comes to.
+    // A flat child in d; a block is its tail. Any other child is left to the walk, by the node that it comes to. `peek`, `peek_into` and `peek_jump` differ in what they
+    // ask and give, and share the nodes' functions and their end: one function of all three would be those differences.
     pub(crate) fn peek_into(
         &self,
         buffers: &mut Buffers,
@@ -296,13 +299,13 @@ impl Arena<'_> {
         d: u32,
     ) -> AnswerAndState
         requires { InArena self.now.nodes.now node × (d < any) }
-        ensures done { (list : List ℕ) → Checked (tree_of self.now.nodes.now list self.now.names.now) → is_inner result.answer ≡ false →
-            settled (lower_materializing (lower_expression free_temp (tree_of self.now.nodes.now list self.now.names.now) node) (Some (register_at d)) (made_of buffers.old state))
-            ≡ seen (tree_of self.now.nodes.now list self.now.names.now) register_at (made_of buffers.new result.state) result.answer }
+        ensures done { is_inner result.answer ≡ false →
+            settled (lower_materializing (lower_expression free_temp (tree_of self.now.nodes.now self.now.list.now self.now.names.now) node) (Some (register_at d)) (made_of buffers.old state))
+            ≡ seen (tree_of self.now.nodes.now self.now.list.now self.now.names.now) register_at (made_of buffers.new result.state) result.answer }
         ensures inner { is_inner result.answer ≡ true → NothingDone buffers.old buffers.new state result × ((value_of result.answer ≤ node) × (binary_kind ≤ node_word_of self.now.nodes.now (value_of result.answer) 0)) }
-        ensures same { (list : List ℕ) (e : Register) (m : Made) → Checked (tree_of self.now.nodes.now list self.now.names.now) → is_inner result.answer ≡ true →
-            lower_materializing (lower_expression free_temp (tree_of self.now.nodes.now list self.now.names.now) node) (Some e) m
-            ≡ lower_materializing (lower_expression free_temp (tree_of self.now.nodes.now list self.now.names.now) (value_of result.answer)) (Some e) m }
+        ensures same { (e : Register) (m : Made) → is_inner result.answer ≡ true →
+            lower_materializing (lower_expression free_temp (tree_of self.now.nodes.now self.now.list.now self.now.names.now) node) (Some e) m
+            ≡ lower_materializing (lower_expression free_temp (tree_of self.now.nodes.now self.now.list.now self.now.names.now) (value_of result.answer)) (Some e) m }
         ensures kept { Kept buffers.old buffers.new }
     {
         let tail = self.tail_of(node);
@@ -339,7 +342,7 @@ impl Arena<'_> {
         emit(buffers.code, counts, jump_if(sense), reg_of(register), 0, 0)
     }
 
-    // A comparison of two leaves as a condition: the fused jump. Any other operator is left to the walk.
+    // A comparison of two leaves as a condition: the fused jump. Any other operator is left to the walk. What it has in common with `binary_into` are two calls.
     #[tactic(auto, using(steps::proofs::Words::is_inner_refusal, steps::proofs::Words::is_inner_inner, crate::proofs::FlatNodes::no_inner))]
     fn compared_leaves(
         &self,
@@ -349,9 +352,9 @@ impl Arena<'_> {
         sense: bool,
     ) -> AnswerAndCounts
         requires { InArena self.now.nodes.now node × (node_word_of self.now.nodes.now node 0 ≡ binary_kind) }
-        ensures step { (list : List ℕ) (rs : RegisterSet) (n : ℕ) → Checked (tree_of self.now.nodes.now list self.now.names.now) → is_inner result.answer ≡ false →
-            settled (jump_node (tree_of self.now.nodes.now list self.now.names.now) (lower_expression free_temp (tree_of self.now.nodes.now list self.now.names.now)) sense (lower_expression free_temp (tree_of self.now.nodes.now list self.now.names.now) node) (node_at (words self.now.nodes.now) node) (made_of buffers.old (state_of rs counts n)))
-            ≡ seen (tree_of self.now.nodes.now list self.now.names.now) place_at (made_of buffers.new (state_of rs result.counts n)) result.answer }
+        ensures step { (rs : RegisterSet) (n : ℕ) → is_inner result.answer ≡ false →
+            settled (jump_node (tree_of self.now.nodes.now self.now.list.now self.now.names.now) (lower_expression free_temp (tree_of self.now.nodes.now self.now.list.now self.now.names.now)) sense (lower_expression free_temp (tree_of self.now.nodes.now self.now.list.now self.now.names.now) node) (node_at (words self.now.nodes.now) node) (made_of buffers.old (state_of rs counts n)))
+            ≡ seen (tree_of self.now.nodes.now self.now.list.now self.now.names.now) place_at (made_of buffers.new (state_of rs result.counts n)) result.answer }
         ensures inner { is_inner result.answer ≡ true →
             (result ≡ record { counts = counts; answer = word_end + node }) × Untouched buffers.old buffers.new }
         ensures kept { Kept buffers.old buffers.new }
@@ -381,9 +384,9 @@ impl Arena<'_> {
         sense: bool,
     ) -> AnswerAndCounts
         requires { InArena self.now.nodes.now node }
-        ensures step { (list : List ℕ) (rs : RegisterSet) (n : ℕ) → Checked (tree_of self.now.nodes.now list self.now.names.now) → is_inner result.answer ≡ false →
-            settled (jump_node (tree_of self.now.nodes.now list self.now.names.now) (lower_expression free_temp (tree_of self.now.nodes.now list self.now.names.now)) sense (lower_expression free_temp (tree_of self.now.nodes.now list self.now.names.now) node) (node_at (words self.now.nodes.now) node) (made_of buffers.old (state_of rs counts n)))
-            ≡ seen (tree_of self.now.nodes.now list self.now.names.now) place_at (made_of buffers.new (state_of rs result.counts n)) result.answer }
+        ensures step { (rs : RegisterSet) (n : ℕ) → is_inner result.answer ≡ false →
+            settled (jump_node (tree_of self.now.nodes.now self.now.list.now self.now.names.now) (lower_expression free_temp (tree_of self.now.nodes.now self.now.list.now self.now.names.now)) sense (lower_expression free_temp (tree_of self.now.nodes.now self.now.list.now self.now.names.now) node) (node_at (words self.now.nodes.now) node) (made_of buffers.old (state_of rs counts n)))
+            ≡ seen (tree_of self.now.nodes.now self.now.list.now self.now.names.now) place_at (made_of buffers.new (state_of rs result.counts n)) result.answer }
         ensures inner { is_inner result.answer ≡ true →
             (result ≡ record { counts = counts; answer = word_end + node }) × Untouched buffers.old buffers.new }
         ensures kept { Kept buffers.old buffers.new }
@@ -407,9 +410,9 @@ impl Arena<'_> {
         sense: bool,
     ) -> AnswerAndState
         requires { InArena self.now.nodes.now node }
-        ensures step { (list : List ℕ) → Checked (tree_of self.now.nodes.now list self.now.names.now) → is_inner result.answer ≡ false →
-            settled (jump_node (tree_of self.now.nodes.now list self.now.names.now) (lower_expression free_temp (tree_of self.now.nodes.now list self.now.names.now)) sense (lower_expression free_temp (tree_of self.now.nodes.now list self.now.names.now) node) (node_at (words self.now.nodes.now) node) (made_of buffers.old state))
-            ≡ seen (tree_of self.now.nodes.now list self.now.names.now) place_at (made_of buffers.new result.state) result.answer }
+        ensures step { is_inner result.answer ≡ false →
+            settled (jump_node (tree_of self.now.nodes.now self.now.list.now self.now.names.now) (lower_expression free_temp (tree_of self.now.nodes.now self.now.list.now self.now.names.now)) sense (lower_expression free_temp (tree_of self.now.nodes.now self.now.list.now self.now.names.now) node) (node_at (words self.now.nodes.now) node) (made_of buffers.old state))
+            ≡ seen (tree_of self.now.nodes.now self.now.list.now self.now.names.now) place_at (made_of buffers.new result.state) result.answer }
         ensures inner { is_inner result.answer ≡ true → NothingDone buffers.old buffers.new state result }
         ensures kept { Kept buffers.old buffers.new }
     {
@@ -430,7 +433,8 @@ impl Arena<'_> {
     }
 
     // An entry of leaves, or a key alone, on two counts: "Literals left over are pooled last, key before value." Any other entry is left to the walk, and nothing
-    // is done. What pools the fields and emits stands here and in `set_property`: inlined here, maps take a tenth to a sixth less time.
+    // is done. What pools the fields and emits stands here and in `set_property`: inlined here, maps take a tenth to a sixth less time. `value` is a word, as the definition's
+    // entry has it, and is read by `node_of`.
     #[tactic(auto, using(steps::proofs::Words::is_inner_refusal, steps::proofs::Words::is_inner_inner, steps::proofs::Words::is_inner_word))]
     pub(crate) fn flat_entry(
         &self,

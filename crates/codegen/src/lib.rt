@@ -110,7 +110,8 @@ fn lower_lent(
 }
 
 impl Arena<'_> {
-    // The root by its mode. A mode stays a number here: document 01 numbers the modes, and the definition of `lower_root` matches on the number.
+    // The root by its mode. A mode stays a number here: it is matched once, and an enum would need that match to be made, where the definition of `lower_root` matches on
+    // the number.
     fn lower_root(
         &self,
         buffers: &mut Buffers,

@@ -139,8 +139,7 @@ impl RegisterSet {
         };
         let flipped = self.flipped(r);
         let words = flipped.words;
-        let old = self.frame_size;
-        let frame_size = if old < r + 1 { r + 1 } else { old };
+        let frame_size = self.frame_size.max(r + 1);
         Taken {
             set: RegisterSet { words, frame_size },
             place: Ok(r),
@@ -213,7 +212,7 @@ impl RegisterSet {
                 held_below(arity, 2 * BITS),
                 held_below(arity, 3 * BITS),
             ],
-            frame_size: if arity < REGISTERS { arity } else { REGISTERS },
+            frame_size: arity.min(REGISTERS),
         }
     }
 }

@@ -31,7 +31,7 @@ const SPACE: u8 = 32;
 
 const DIGIT_ZERO: u8 = 48;
 
-const MAX_WORD: u64 = 4294967295;
+const MAX_WORD: u64 = u32::MAX as u64;
 
 // A byte after spaces alone.
 #[tactic(auto, unfolding(crate::specs::Column::first))]
@@ -83,7 +83,8 @@ fn said(bytes: &[u8]) -> Column
     bytes.iter().fold(Column::Blank, |c, b| step(c, *b))
 }
 
-// The column at `at`; past the end of the text there is none.
+// The column at `at`; past the end of the text there is none. A column has 11 bytes, spaces among them: the library's `parse` takes a `&str` of any
+// width.
 #[tactic(auto, using(crate::proofs::Columns::column_short, crate::proofs::Columns::column_folded, std::proofs::lemmas::Slice::between_to_end))]
 pub fn read_column(s: &[u8], at: usize) -> Column
     ensures { result ≡ read_column (drop at s.now) }
@@ -118,7 +119,8 @@ fn padding(x: u32) -> u8
     }
 }
 
-// Writes the column of x, the last digit first; bytes past the end are left out.
+// Writes the column of x, the last digit first; bytes past the end are left out. Not by the library's printing, which is to a `str` of any width: a column has
+// 11 bytes, which stand in the text that is lent, and there is no heap.
 #[tactic(auto, using(words::proofs::Records::sets_out, crate::proofs::Columns::padded_more, crate::proofs::Columns::column_last), unfolding(crate::specs::Column::padded))]
 pub fn write_column(s: &mut [u8], at: usize, x: u32)
     ensures { s.new ≡ sets s.old at (write_column x) }

@@ -1,6 +1,7 @@
 // The opcode of an operator, by where its operands are: two registers (rr), a register and a constant (rk), a constant and a register (kr); and
 // whether its operands are swapped. "Greater swaps operands, not their evaluation. A constant on the left of add, multiply, equal, not-equal
 // goes right." The arms stand in the order of kaori's lower_expression.rs and lower_ast.rs.
+// Each form keeps a table of its own, an arm an operator in that order: one table over the form would have the same arms.
 #![tactic(auto)]
 
 ghost use Rattle.std.specs.Prelude.{ℕ, ◌≡◌, [], ◌∷◌, Some};
@@ -87,12 +88,15 @@ pub fn swaps(operator: BinaryOp) -> bool
 pub fn swaps_kr(operator: BinaryOp) -> bool
     ensures { result ≡ swaps_kr operator }
 {
-    match operator {
-        BinaryOp::Add | BinaryOp::Multiply => true,
-        BinaryOp::Equal | BinaryOp::NotEqual => true,
-        BinaryOp::Greater | BinaryOp::GreaterEqual => true,
-        _ => false,
-    }
+    matches!(
+        operator,
+        BinaryOp::Greater
+            | BinaryOp::GreaterEqual
+            | BinaryOp::Add
+            | BinaryOp::Multiply
+            | BinaryOp::Equal
+            | BinaryOp::NotEqual
+    )
 }
 
 // The opcode of a unary operator.
@@ -111,12 +115,15 @@ pub fn unary(operator: UnaryOp) -> Opcode
 pub fn is_comparison(operator: BinaryOp) -> bool
     ensures { result ≡ is_comparison operator }
 {
-    match operator {
-        BinaryOp::Add | BinaryOp::Subtract => false,
-        BinaryOp::Multiply | BinaryOp::Divide => false,
-        BinaryOp::Modulo => false,
-        _ => true,
-    }
+    matches!(
+        operator,
+        BinaryOp::Equal
+            | BinaryOp::NotEqual
+            | BinaryOp::Less
+            | BinaryOp::Greater
+            | BinaryOp::LessEqual
+            | BinaryOp::GreaterEqual
+    )
 }
 
 // The jump that is taken where the comparison gives `sense`.

@@ -143,9 +143,6 @@ module _ (ws index r : List ℕ) where
 pub in_chain : (next bound : ℕ) → (ltb 0 next && leb next bound) ≡ true → (0 < next) × (next ≤ bound)
 in_chain next bound test = let both = and_parts (ltb 0 next) (leb next bound) test in (ltb-true 0 next both.0, leb-true next bound both.1)
 
-pub in_links : (next bound : ℕ) → (ltb 0 next && leb next bound) ≡ true → bound ≤ links → next - 1 < links
-in_links next bound test few = omega (arith, (in_chain next bound test).0, (in_chain next bound test).1, few)
-
 module _ (ws index r : List ℕ) (bound next : ℕ) where
   abbrev rest : ℕ
   rest = chained ws index r bound bound next
@@ -192,13 +189,6 @@ module _ (ws index r : List ℕ) (bound next : ℕ) where
       walk_off o = sym (chain_off ws index r (bound - 1) bound next some within e (λ x. o (slot_here ∙ x))) ∙ stepped
 
 -- ---- a search
-
-pub linked_within : (n : ℕ) → linked n ≤ links
-linked_within n = go (dec_lt n links)
-  where
-    go : Dec (n < links) → linked n ≤ links
-    go (yes l) = rw (lt-ltb n links l) (omega (arith, l))
-    go (no l) = rw (le-ltb n links (omega (arith, l))) (omega arith)
 
 linked_least : (n count : ℕ) → n ≤ count → n ≤ links → n ≤ linked count
 linked_least n count h l = go (dec_lt count links)

@@ -1,20 +1,17 @@
--- Of records, a search and a constant's words, what the index needs beside the laws of those. Assumes nothing.
+-- Of records and an append's answer, what the index needs beside the laws of those. Assumes nothing.
 use Rattle.std.specs.Prelude.{Ok, Err}
-use mathlib.Core.Path.{◌≡◌, refl}
-use mathlib.Core.List.{List, [], ◌∷◌}
-use mathlib.Core.Bool.{false}
-use Prim.Native.Nat.{ℕ, ◌*◌, ◌≤◌, ◌<◌}
+use mathlib.Core.Path.{◌≡◌}
+use mathlib.Core.List.{List}
+use Prim.Native.Nat.{ℕ, ◌*◌, ◌<◌}
 use native.Mathlib.Omega.{arith}
 use native.Mathlib.Decide.{ℕ_discrete}
-use lib.ListN.{length, get_or, drop, length-drop}
+use lib.ListN.{length, drop, length-drop}
 use lib.Seq.{length-take-le}
-use borrow.Author.Tests.{le-ltb, eq-eqb, ne_eqb}
+use borrow.Author.Tests.{eq-eqb, ne_eqb}
 use Rattle.diagnostics.specs.declared.Refusal.{Refusal}
-use Rattle.words.specs.Records.{capacity, record_at, is_at}
+use Rattle.words.specs.Records.{capacity, record_at}
 use Rattle.pool_index.specs.Index.{full, appended}
 use Rattle.words.proofs.Records.{room}
-use Rattle.runtime.specs.declared.operand.Operand.{Operand}
-use Rattle.runtime.specs.Value.{constant_words}
 
 -- a whole record has w words
 pub record_long : (w : ℕ) (ws : List ℕ) (p : ℕ) → p < capacity w ws → length (record_at w ws p) ≡ w
@@ -49,17 +46,3 @@ module _ (count place : ℕ) (refusal : Refusal) where
           let no_refusal : Ok place ≡ Err refusal = rw (ne_eqb place full f) at e in
           let z : ◌≡◌ {A = ℕ} 0 1 = cc in
           absurd (omega arith)
-
--- past the last whole record none is found
-pub past_is : (ws r : List ℕ) (p : ℕ) → capacity (length r) ws ≤ p → is_at ws r p ≡ false
-unfolding is_at
-past_is ws r p h = rw (le-ltb p (capacity (length r) ws) h)
-
--- a constant's words, one by one
-pub three_words : (c : Operand) → constant_words c ≡ get_or (constant_words c) 0 0 ∷ get_or (constant_words c) 1 0 ∷ get_or (constant_words c) 2 0 ∷ []
-unfolding constant_words
-three_words Operand.Nil = refl
-three_words (Operand.Boolean b) = refl
-three_words (Operand.Number x) = refl
-three_words (Operand.String symbol) = refl
-three_words (Operand.Register r) = refl

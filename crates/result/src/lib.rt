@@ -66,7 +66,8 @@ pub fn refused_result(refused: Refused) -> Result
     }
 }
 
-// Whether a refusal names a node, whose span comes back. The answer of the walk has the refusal's number, so numbers are compared.
+// Whether a refusal names a node, whose span comes back. The answer of the walk has the refusal's number, so numbers are compared: a match would need
+// the refusal read back of it, with 19 arms.
 #[tactic(auto, using(crate::proofs::Laws::node_named))]
 fn names_node(number: u32) -> bool
     ensures { result ≡ names_node (refusal_of number) }
@@ -78,7 +79,7 @@ fn names_node(number: u32) -> bool
 }
 
 // The number of the refusal that a number stands for: 1 to 19 stand for themselves, a lower number for the first and a higher one for the last. A number,
-// since the answer of the walk has one.
+// since the answer of the walk has one: a match would, here too, need the refusal read back.
 #[tactic(auto, using(crate::proofs::Laws::number_clamped))]
 fn refusal_number(number: u32) -> u32
     ensures { result ≡ refusal_number (refusal_of number) }

@@ -15,13 +15,6 @@ beq_refl : (b : Bool) → beq b b ≡ true
 beq_refl true = refl
 beq_refl false = refl
 
--- a number equals itself, and is no NaN
-pub equal_number : (x : Float) → eq x x ≡ true → T (not (is_nan x))
-unfolding eq is_nan
-equal_number nan h = absurd (false≢true h)
-equal_number (inf s) h = tt
-equal_number (fin s m e) h = tt
-
 -- what does not equal itself is NaN
 pub unequal_nan : (x : Float) → eq x x ≡ false → x ≡ nan
 unfolding eq

@@ -273,7 +273,8 @@ pub enum Instruction {
     },
 }
 
-// Whether `patch_arguments` lists a kind: its first field is then a destination. The kind is a word of any buffer, and need be no opcode's number.
+// Whether `patch_arguments` lists a kind: its first field is then a destination. The kind is a word of any buffer, and need be no opcode's number:
+// for a match an `Opcode` would have to be read back of it, with 55 arms.
 #[tactic(auto, unfolding(crate::specs::Instruction::has_destination))]
 pub fn has_destination(kind: u32) -> bool
     ensures { result ≡ has_destination kind }
@@ -296,7 +297,8 @@ pub fn has_destination(kind: u32) -> bool
     }
 }
 
-// Which word of a jump is its offset; 0, the kind's own word, for a kind that is no jump. The kind is, here too, a word of any buffer.
+// Which word of a jump is its offset; 0, the kind's own word, for a kind that is no jump. The kind is, here too, a word of any buffer,
+// and no `Opcode` is read back of it.
 #[tactic(auto, unfolding(crate::specs::Instruction::offset_word))]
 pub fn offset_word(kind: u32) -> usize
     ensures { result ≡ offset_word kind }

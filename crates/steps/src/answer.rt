@@ -17,11 +17,11 @@ pub struct AnswerAndState {
     pub answer: u64,
 }
 
-// The word of an operand that is in no register: the node is a literal, which is not pooled yet.
+// The word of an operand that is in no register: the node is a literal, which is not pooled yet. A word, since it is one of the walk's answers.
 pub const LITERAL: u32 = 1024;
 
 // The word where there is no register.
-pub const NONE: u32 = 4294967295;
+pub const NONE: u32 = u32::MAX;
 
 // Answers from here on are refusals: the test is one of the sign, which the compiler takes for rare.
 const REFUSED: u64 = 0x8000_0000_0000_0000;

@@ -93,20 +93,10 @@ pub fn given_back(state: State, src: u32) -> State
     s
 }
 
-// How far it is from a place to a later one.
-fn distance(place: u32, next: u32) -> u32
-    ensures { result ≡ next - place }
-{
-    if place <= next {
-        return next - place;
-    }
-    0
-}
-
 // The jump at `place` goes to the instruction `next`.
 pub fn patch_to_next(code: &mut [u8], place: u32, next: u32)
     ensures words { words code.new ≡ put_offset (words code.old) place (next - place) }
     ensures tail { tail code.new ≡ tail code.old }
 {
-    put_offset(code, place, distance(place, next));
+    put_offset(code, place, next.saturating_sub(place));
 }

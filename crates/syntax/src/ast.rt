@@ -9,9 +9,10 @@ use words::word;
 // The words of a node record.
 pub const NODE_WORDS: usize = 6;
 
-// What stands for an else, a tail or a map's value that is not there.
-const ABSENT: u32 = 4294967295;
+// What stands for an else, a tail or a map's value that is not there. A builder of trees writes it.
+pub const ABSENT: u32 = u32::MAX;
 
+// A node as the definition has it: an else or a tail that is not there is ABSENT, as in the record. No code makes one.
 #[derive(Drop)]
 pub enum Node {
     Number {

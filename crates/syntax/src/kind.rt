@@ -22,7 +22,7 @@ pub enum Kind {
 }
 
 impl Kind {
-    // The kind of a word, if there is one.
+    // The kind of a word, if there is one. No `TryFrom`: it would need an error type, which would say nothing.
     #[tactic(auto, using(crate::proofs::KindWords::kind_past), unfolding(crate::specs::Kinds::kind_of))]
     pub fn of(word: u32) -> Option<Kind>
         ensures { result ≡ kind_of word }

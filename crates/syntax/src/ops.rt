@@ -23,7 +23,7 @@ pub enum UnaryOp {
     Deref,
 }
 
-// The six operators that compare.
+// The six operators that compare. An enum of their own, for the definition: its tables of fused jumps then have no arm for the other operators.
 #[derive(Drop)]
 pub enum Comparison {
     Equal,
@@ -35,7 +35,7 @@ pub enum Comparison {
 }
 
 impl BinaryOp {
-    // The operator of a word; a word past the last operator reads as the last.
+    // The operator of a word; a word past the last operator reads as the last. No `TryFrom`: its error type would say nothing, since no word is refused.
     #[tactic(auto, using(crate::proofs::Tables::get_or_past), unfolding(crate::specs::Ops::binary_op))]
     pub fn of(word: u32) -> BinaryOp
         ensures { result ≡ binary_op word }
@@ -57,7 +57,7 @@ impl BinaryOp {
 }
 
 impl UnaryOp {
-    // The operator of a word, likewise.
+    // The operator of a word, likewise, and likewise no `TryFrom`.
     #[tactic(auto, using(crate::proofs::Tables::get_or_past), unfolding(crate::specs::Ops::unary_op))]
     pub fn of(word: u32) -> UnaryOp
         ensures { result ≡ unary_op word }

@@ -1,6 +1,7 @@
 -- The laws of records, once, over the width w. Each follows from what `sets` leaves at an index: before the run, in it and past it.
 -- Assumes nothing.
-use Rattle.std.specs.Prelude.{Ok, Err}
+use Rattle.std.specs.Prelude.{Ok, Err, min}
+use Rattle.std.proofs.lemmas.List.{take_all}
 use mathlib.Core.Path.{◌≡◌, refl, sym, ap, ◌∙◌}
 use mathlib.Core.List.{List, [], ◌∷◌, ◌++◌, append_assoc}
 use mathlib.Core.Logic.{◌≢◌}
@@ -30,6 +31,14 @@ pub sets_fitting : (l : List ℕ) (i n : ℕ) (vs : List ℕ) → length l ≤ i
 sets_fitting l i n [] h = rw (take-nil n)
 sets_fitting l i zero (v ∷ vs) h = sym (sets_out l i (v ∷ vs) (omega arith))
 sets_fitting l i (suc n) (v ∷ vs) h = sets_fitting (set l i v) (suc i) n vs (omega (arith, length-set l i v))
+
+-- and so is the part that fits, which is all of it where it does not reach the end
+pub sets_least : (l : List ℕ) (i n k : ℕ) (vs : List ℕ) → length l ≤ i + n → k ≡ min (length vs) n → sets l i (take k vs) ≡ sets l i vs
+sets_least l i n k vs h e = go (dec_lt k (length vs))
+  where
+    go : Dec (k < length vs) → sets l i (take k vs) ≡ sets l i vs
+    go (yes b) = sets_fitting l i k vs (omega arith)
+    go (no b) = ap (sets l i) (take_all k vs (omega arith))
 
 -- a run of stores, from index i + k on: one more, and none left
 module _ (l : List ℕ) (i k : ℕ) (vs : List ℕ) where

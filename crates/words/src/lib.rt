@@ -22,7 +22,7 @@ pub const WORD_BYTES: usize = 4;
 pub const WORD_END: u64 = 4294967296;
 
 // The most records that a count of 32 bits can say.
-pub const MAX_COUNT: u32 = 4294967295;
+pub const MAX_COUNT: u32 = u32::MAX;
 
 fn wide(x: u8) -> u32
     ensures { (result ≡ x) × (result < byte_end) }
@@ -96,12 +96,8 @@ pub fn put_words(s: &mut [u8], at: usize, xs: &[u32])
 {
     let end = s.len() / WORD_BYTES;
     if at <= end {
-        let room = end - at;
-        if room < xs.len() {
-            put_record(s, at, &xs[..room]);
-        } else {
-            put_record(s, at, xs);
-        }
+        let fit = xs.len().min(end - at);
+        put_record(s, at, &xs[..fit]);
     }
 }
 
@@ -158,11 +154,7 @@ pub fn position(s: &[u8], count: u32, item: &[u32]) -> Option<u32>
 {
     let width = item.len();
     let records = capacity(s, width);
-    let end = if records < (count as usize) {
-        records as u32
-    } else {
-        count
-    };
+    let end = records.min(count as usize) as u32;
     for p in 0..end {
         if same_words(s, width * (p as usize), item) {
             return Some(p);

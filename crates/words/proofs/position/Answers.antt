@@ -1,19 +1,16 @@
 -- `words::position` meets its contract. Assumes nothing.
 use Rattle.std.proofs.Common.{◌∙◌, length, sym, arith}
+use native.Mathlib.Decide.{dec_lt}
 use Rattle.words.specs.Words.{words}
 use Rattle.words.proofs.Words.{length_words}
 use Rattle.words.proofs.Records.{room}
 use Rattle.words.proofs.Search.{whole_is, search_start, search_found, search_more, search_end, search_past, first_some, first_none}
 use Rattle.words.proofs.position.Goals as goal
-use Rattle.words.proofs.position.Goals.{then-records-count, else-records-count}
 
 pub loop-p-init : goal.loop-p-init
 loop-p-init c =
     let records = c.capacity-records.ensures in
-    elim c.if-records-count.branch [
-      | then-records-count w ↦ record { before_end = omega arith; counted = omega arith; whole = omega arith; found = search_start _ _ _ }
-      | else-records-count w ↦ record { before_end = omega arith; counted = omega arith; whole = omega arith; found = search_start _ _ _ }
-    ]
+    record { before_end = omega arith; counted = omega arith; whole = omega arith; found = search_start _ _ _ }
 
 pub overflow_mul-width : goal.overflow_mul-width
 overflow_mul-width c =
@@ -43,7 +40,7 @@ loop-p-preserved c =
 pub returns : goal.returns
 returns c =
     let inv = c.loop-p.invariant in
-    elim c.if-records-count.branch [
-      | then-records-count w ↦ first_none _ _ _ (search_past _ _ _ _ inv.found (omega arith) (omega arith)) (omega arith)
-      | else-records-count w ↦ first_none _ _ _ (search_end _ _ _ _ inv.found (omega arith) (omega arith)) (omega arith)
+    elim (dec_lt c.loop-p.p c.args.count) [
+      | yes l ↦ first_none _ _ _ (search_past _ _ _ _ inv.found (omega arith) (omega arith)) (omega arith)
+      | no l ↦ first_none _ _ _ (search_end _ _ _ _ inv.found (omega arith) (omega arith)) (omega arith)
     ]

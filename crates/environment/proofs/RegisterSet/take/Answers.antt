@@ -33,11 +33,8 @@ module _ (s : RegisterSet) {o : Option ℕ} (is : o ≡ cond (ltb (smallest_free
       go true h p = let z : ◌≡◌ {A = ℕ} 0 1 = cc in absurd (omega arith)
       go false h p = rw h
 
-pub returns-then-old-r : goal.returns-then-old-r
-returns-then-old-r c = taken_at c.args.self c.smallest_free.ensures c.in-Some.is c.flipped-flipped.ensures (omega arith)
-
-pub returns-else-old-r : goal.returns-else-old-r
-returns-else-old-r c = taken_at c.args.self c.smallest_free.ensures c.in-Some.is c.flipped-flipped.ensures (omega arith)
+pub returns : goal.returns
+returns c = taken_at c.args.self c.smallest_free.ensures c.in-Some.is c.flipped-flipped.ensures (omega arith)
 
 pub returns-in_default : goal.returns-in_default
 returns-in_default c = taken_none c.args.self c.smallest_free.ensures c.in_default.is

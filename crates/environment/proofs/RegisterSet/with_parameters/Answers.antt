@@ -9,8 +9,5 @@ word_by_word : (n a b d e f : ℕ) → a ≡ held_below n 0 → b ≡ held_below
     ◌≡◌ {A = RegisterSet} (record { words = a ∷ b ∷ d ∷ e ∷ []; frame_size = f }) (parameters n)
 word_by_word n a b d e f p q r s t = rw (p, q, r, s, t) (sym (parameters_lowest n))
 
-pub returns-then-arity-lt-REGISTERS : goal.returns-then-arity-lt-REGISTERS
-returns-then-arity-lt-REGISTERS c = word_by_word _ _ _ _ _ _ c.held_below.ensures c.held_below-2.ensures c.held_below-3.ensures c.held_below-4.ensures (omega arith)
-
-pub returns-else-arity-lt-REGISTERS : goal.returns-else-arity-lt-REGISTERS
-returns-else-arity-lt-REGISTERS c = word_by_word _ _ _ _ _ _ c.held_below.ensures c.held_below-2.ensures c.held_below-3.ensures c.held_below-4.ensures (omega arith)
+pub returns : goal.returns
+returns c = word_by_word _ _ _ _ _ _ c.held_below.ensures c.held_below-2.ensures c.held_below-3.ensures c.held_below-4.ensures (omega arith)

@@ -43,7 +43,7 @@ pub arguments-returns-then-is_refusal-clause-lowers : goal.arguments-returns-the
 arguments-returns-then-is_refusal-clause-lowers t c =
     let few = (call_below c.args.self.now.checked _ c.requires.1 refl c.node_word-first.ensures c.node_word-count.ensures).few in
     let checked = c.args.self.now.checked in
-    let argument = into_of checked _ c.peek_into-f1.ensures.inner (λ e m h. c.peek_into-f1.ensures.same _ e m checked h) c.lower_materializing-r1.ensures.walked c.lower_materializing-r1.ensures.done (λ h. c.peek_into-f1.ensures.done _ checked h) in
+    let argument = into_of checked _ c.peek_into-f1.ensures.inner c.peek_into-f1.ensures.same c.lower_materializing-r1.ensures.walked c.lower_materializing-r1.ensures.done c.peek_into-f1.ensures.done in
     arguments_of _ _ _ c.node_word-first.ensures c.node_word-count.ensures
     (c.loop-i.invariant.0 ∙ then_argument _ _ _ _ _ _ c.loop-i-test.true (omega (arith, c.loop-i-test.true, few)) c.word-argument.ensures c.local-d.ensures
     (stop_by _ _ register_at _ _ _ argument unit_at c.is_refusal.ensures c.if-is_refusal.true))
@@ -52,7 +52,7 @@ pub arguments-returns-then-s-eq0-clause-lowers : goal.arguments-returns-then-s-e
 arguments-returns-then-s-eq0-clause-lowers t c =
     let few = (call_below c.args.self.now.checked _ c.requires.1 refl c.node_word-first.ensures c.node_word-count.ensures).few in
     let checked = c.args.self.now.checked in
-    let argument = into_of checked _ c.peek_into-f1.ensures.inner (λ e m h. c.peek_into-f1.ensures.same _ e m checked h) c.lower_materializing-r1.ensures.walked c.lower_materializing-r1.ensures.done (λ h. c.peek_into-f1.ensures.done _ checked h) in
+    let argument = into_of checked _ c.peek_into-f1.ensures.inner c.peek_into-f1.ensures.same c.lower_materializing-r1.ensures.walked c.lower_materializing-r1.ensures.done c.peek_into-f1.ensures.done in
     by_answer _ _ _ _ _ _ (c.refused.ensures.state, c.refused.ensures.answer)
     (arguments_of _ _ _ c.node_word-first.ensures c.node_word-count.ensures
     (c.loop-i.invariant.0 ∙ then_argument _ _ _ _ _ _ c.loop-i-test.true (omega (arith, c.loop-i-test.true, few)) c.word-argument.ensures c.local-d.ensures
@@ -63,7 +63,7 @@ pub arguments-returns-in_default-clause-lowers : goal.arguments-returns-in_defau
 arguments-returns-in_default-clause-lowers t c =
     let few = (call_below c.args.self.now.checked _ c.requires.1 refl c.node_word-first.ensures c.node_word-count.ensures).few in
     let checked = c.args.self.now.checked in
-    let argument = into_of checked _ c.peek_into-f1.ensures.inner (λ e m h. c.peek_into-f1.ensures.same _ e m checked h) c.lower_materializing-r1.ensures.walked c.lower_materializing-r1.ensures.done (λ h. c.peek_into-f1.ensures.done _ checked h) in
+    let argument = into_of checked _ c.peek_into-f1.ensures.inner c.peek_into-f1.ensures.same c.lower_materializing-r1.ensures.walked c.lower_materializing-r1.ensures.done c.peek_into-f1.ensures.done in
     by_answer _ _ _ _ _ _ (c.refused-in_default.ensures.state, c.refused-in_default.ensures.answer)
     (arguments_of _ _ _ c.node_word-first.ensures c.node_word-count.ensures
     (c.loop-i.invariant.0 ∙ then_argument _ _ _ _ _ _ c.loop-i-test.true (omega (arith, c.loop-i-test.true, few)) c.word-argument.ensures c.local-d.ensures
@@ -74,7 +74,7 @@ pub arguments-loop-i-preserved : goal.arguments-loop-i-preserved
 arguments-loop-i-preserved t c =
     let few = (call_below c.args.self.now.checked _ c.requires.1 refl c.node_word-first.ensures c.node_word-count.ensures).few in
     let checked = c.args.self.now.checked in
-    let argument = into_of checked _ c.peek_into-f1.ensures.inner (λ e m h. c.peek_into-f1.ensures.same _ e m checked h) c.lower_materializing-r1.ensures.walked c.lower_materializing-r1.ensures.done (λ h. c.peek_into-f1.ensures.done _ checked h) in
+    let argument = into_of checked _ c.peek_into-f1.ensures.inner c.peek_into-f1.ensures.same c.lower_materializing-r1.ensures.walked c.lower_materializing-r1.ensures.done c.peek_into-f1.ensures.done in
     let tree = tree_of c.args.self.now.nodes.now c.args.self.now.list.now c.args.self.now.names.now in (
       c.loop-i.invariant.0 ∙ then_argument _ _ _ _ _ _ c.loop-i-test.true (omega (arith, c.loop-i-test.true, few)) c.word-argument.ensures c.local-d.ensures
           (then_into _ _ _ _ _ _ _ argument (sym c.is_refusal.ensures ∙ c.if-is_refusal.false)
@@ -96,7 +96,7 @@ entry-peek-f1-requires t c = (child_in _ _ _ c.requires.0 c.requires.1.1, λ e. 
 pub entry-returns-then-is_refusal-clause-lowers : goal.entry-returns-then-is_refusal-clause-lowers
 entry-returns-then-is_refusal-clause-lowers t c =
     let checked = c.args.self.now.checked in
-    let value = operand_of checked c.peek-f1.ensures.inner c.lower_materializing-r1.ensures.walked c.lower_materializing-r1.ensures.done (λ h. c.peek-f1.ensures.operand _ checked h refl) in
+    let value = operand_of checked c.peek-f1.ensures.inner c.lower_materializing-r1.ensures.walked c.lower_materializing-r1.ensures.done (λ h. c.peek-f1.ensures.operand h refl) in
     let has = below_absent _ _ c.requires.1.1 (omega (arith, c.ranges.node)) in
     leaf_key _ _ _ _ _ _ (leb-true _ _ (rw c.kind.ensures at (sym c.is_leaf.ensures ∙ c.if-is_leaf.true))) (λ e. has) (valued _ _ has)
     (stop_by _ _ _ _ _ _ value place_at c.is_refusal.ensures c.if-is_refusal.true)
@@ -104,7 +104,7 @@ entry-returns-then-is_refusal-clause-lowers t c =
 pub entry-returns-then-is_leaf-clause-lowers : goal.entry-returns-then-is_leaf-clause-lowers
 entry-returns-then-is_leaf-clause-lowers t c =
     let checked = c.args.self.now.checked in
-    let value = operand_of checked c.peek-f1.ensures.inner c.lower_materializing-r1.ensures.walked c.lower_materializing-r1.ensures.done (λ h. c.peek-f1.ensures.operand _ checked h refl) in
+    let value = operand_of checked c.peek-f1.ensures.inner c.lower_materializing-r1.ensures.walked c.lower_materializing-r1.ensures.done (λ h. c.peek-f1.ensures.operand h refl) in
     let has = below_absent _ _ c.requires.1.1 (omega (arith, c.ranges.node)) in
     leaf_key _ _ _ _ _ _ (leb-true _ _ (rw c.kind.ensures at (sym c.is_leaf.ensures ∙ c.if-is_leaf.true))) (λ e. has) (valued _ _ has)
     (then_by _ _ _ _ _ _ value c.is_refusal.ensures c.if-is_refusal.false c.value_of-src.ensures
@@ -116,7 +116,7 @@ entry-peek-f2-requires t c = (child_in _ _ _ c.requires.0 c.requires.1.0, λ e. 
 pub entry-returns-then-is_refusal-2-clause-lowers : goal.entry-returns-then-is_refusal-2-clause-lowers
 entry-returns-then-is_refusal-2-clause-lowers t c =
     let checked = c.args.self.now.checked in
-    let key = operand_of checked c.peek-f2.ensures.inner c.lower_materializing-r2.ensures.walked c.lower_materializing-r2.ensures.done (λ h. c.peek-f2.ensures.operand _ checked h refl) in
+    let key = operand_of checked c.peek-f2.ensures.inner c.lower_materializing-r2.ensures.walked c.lower_materializing-r2.ensures.done (λ h. c.peek-f2.ensures.operand h refl) in
     key_and_value _ _ _ _ _ _ (past_name (leb-false _ _ (rw c.kind.ensures at (sym c.is_leaf.ensures ∙ c.if-is_leaf.false)))) (below_absent _ _ c.requires.1.1 (omega (arith, c.ranges.node)))
     (stop_by _ _ _ _ _ _ key place_at c.is_refusal-2.ensures c.if-is_refusal-2.true)
 
@@ -126,8 +126,8 @@ entry-peek-f3-requires t c = (child_in _ _ _ c.requires.0 c.requires.1.1, λ e. 
 pub entry-returns-then-is_refusal-3-clause-lowers : goal.entry-returns-then-is_refusal-3-clause-lowers
 entry-returns-then-is_refusal-3-clause-lowers t c =
     let checked = c.args.self.now.checked in
-    let key = operand_of checked c.peek-f2.ensures.inner c.lower_materializing-r2.ensures.walked c.lower_materializing-r2.ensures.done (λ h. c.peek-f2.ensures.operand _ checked h refl) in
-    let value = operand_of checked c.peek-f3.ensures.inner c.lower_materializing-r3.ensures.walked c.lower_materializing-r3.ensures.done (λ h. c.peek-f3.ensures.operand _ checked h refl) in
+    let key = operand_of checked c.peek-f2.ensures.inner c.lower_materializing-r2.ensures.walked c.lower_materializing-r2.ensures.done (λ h. c.peek-f2.ensures.operand h refl) in
+    let value = operand_of checked c.peek-f3.ensures.inner c.lower_materializing-r3.ensures.walked c.lower_materializing-r3.ensures.done (λ h. c.peek-f3.ensures.operand h refl) in
     key_and_value _ _ _ _ _ _ (past_name (leb-false _ _ (rw c.kind.ensures at (sym c.is_leaf.ensures ∙ c.if-is_leaf.false)))) (below_absent _ _ c.requires.1.1 (omega (arith, c.ranges.node)))
     (then_by _ _ _ _ _ _ key c.is_refusal-2.ensures c.if-is_refusal-2.false c.value_of-src1.ensures
     (stop_by _ _ _ _ _ _ value place_at c.is_refusal-3.ensures c.if-is_refusal-3.true))
@@ -135,8 +135,8 @@ entry-returns-then-is_refusal-3-clause-lowers t c =
 pub entry-returns-clause-lowers : goal.entry-returns-clause-lowers
 entry-returns-clause-lowers t c =
     let checked = c.args.self.now.checked in
-    let key = operand_of checked c.peek-f2.ensures.inner c.lower_materializing-r2.ensures.walked c.lower_materializing-r2.ensures.done (λ h. c.peek-f2.ensures.operand _ checked h refl) in
-    let value = operand_of checked c.peek-f3.ensures.inner c.lower_materializing-r3.ensures.walked c.lower_materializing-r3.ensures.done (λ h. c.peek-f3.ensures.operand _ checked h refl) in
+    let key = operand_of checked c.peek-f2.ensures.inner c.lower_materializing-r2.ensures.walked c.lower_materializing-r2.ensures.done (λ h. c.peek-f2.ensures.operand h refl) in
+    let value = operand_of checked c.peek-f3.ensures.inner c.lower_materializing-r3.ensures.walked c.lower_materializing-r3.ensures.done (λ h. c.peek-f3.ensures.operand h refl) in
     let kind = past_name (leb-false _ _ (rw c.kind.ensures at (sym c.is_leaf.ensures ∙ c.if-is_leaf.false))) in
     key_and_value _ _ _ _ _ _ kind (below_absent _ _ c.requires.1.1 (omega (arith, c.ranges.node)))
     (then_by _ _ _ _ _ _ key c.is_refusal-2.ensures c.if-is_refusal-2.false c.value_of-src1.ensures
@@ -154,7 +154,7 @@ fuse-lower_materializing-r1-requires t c = walk_in _ _ None _ c.requires.0 (comp
 pub fuse-returns-then-is_refusal-clause-lowers : goal.fuse-returns-then-is_refusal-clause-lowers
 fuse-returns-then-is_refusal-clause-lowers t c =
     let checked = c.args.self.now.checked in
-    let left = operand_of checked c.peek-f1.ensures.inner c.lower_materializing-r1.ensures.walked c.lower_materializing-r1.ensures.done (λ h. c.peek-f1.ensures.operand _ checked h refl) in
+    let left = operand_of checked c.peek-f1.ensures.inner c.lower_materializing-r1.ensures.walked c.lower_materializing-r1.ensures.done (λ h. c.peek-f1.ensures.operand h refl) in
     compared_jump _ _ c.requires.1 c.node_word-left.ensures c.node_word-right.ensures _ _ _ _
     (λ k e. stop_by _ _ _ _ _ _ left place_at c.is_refusal.ensures c.if-is_refusal.true)
 
@@ -167,8 +167,8 @@ fuse-lower_materializing-r2-requires t c = walk_in _ _ None _ c.requires.0 (comp
 pub fuse-returns-then-is_refusal-2-clause-lowers : goal.fuse-returns-then-is_refusal-2-clause-lowers
 fuse-returns-then-is_refusal-2-clause-lowers t c =
     let checked = c.args.self.now.checked in
-    let left = operand_of checked c.peek-f1.ensures.inner c.lower_materializing-r1.ensures.walked c.lower_materializing-r1.ensures.done (λ h. c.peek-f1.ensures.operand _ checked h refl) in
-    let right = operand_of checked c.peek-f2.ensures.inner c.lower_materializing-r2.ensures.walked c.lower_materializing-r2.ensures.done (λ h. c.peek-f2.ensures.operand _ checked h refl) in
+    let left = operand_of checked c.peek-f1.ensures.inner c.lower_materializing-r1.ensures.walked c.lower_materializing-r1.ensures.done (λ h. c.peek-f1.ensures.operand h refl) in
+    let right = operand_of checked c.peek-f2.ensures.inner c.lower_materializing-r2.ensures.walked c.lower_materializing-r2.ensures.done (λ h. c.peek-f2.ensures.operand h refl) in
     compared_jump _ _ c.requires.1 c.node_word-left.ensures c.node_word-right.ensures _ _ _ _
     (λ k e. then_by _ _ _ _ _ _ left c.is_refusal.ensures c.if-is_refusal.false c.value_of-src1.ensures
     (stop_by _ _ _ _ _ _ right place_at c.is_refusal-2.ensures c.if-is_refusal-2.true))
@@ -176,8 +176,8 @@ fuse-returns-then-is_refusal-2-clause-lowers t c =
 pub fuse-returns-then-src1-src2-clause-lowers : goal.fuse-returns-then-src1-src2-clause-lowers
 fuse-returns-then-src1-src2-clause-lowers t c =
     let checked = c.args.self.now.checked in
-    let left = operand_of checked c.peek-f1.ensures.inner c.lower_materializing-r1.ensures.walked c.lower_materializing-r1.ensures.done (λ h. c.peek-f1.ensures.operand _ checked h refl) in
-    let right = operand_of checked c.peek-f2.ensures.inner c.lower_materializing-r2.ensures.walked c.lower_materializing-r2.ensures.done (λ h. c.peek-f2.ensures.operand _ checked h refl) in
+    let left = operand_of checked c.peek-f1.ensures.inner c.lower_materializing-r1.ensures.walked c.lower_materializing-r1.ensures.done (λ h. c.peek-f1.ensures.operand h refl) in
+    let right = operand_of checked c.peek-f2.ensures.inner c.lower_materializing-r2.ensures.walked c.lower_materializing-r2.ensures.done (λ h. c.peek-f2.ensures.operand h refl) in
     compared_jump _ _ c.requires.1 c.node_word-left.ensures c.node_word-right.ensures _ _ _ _
     (λ k e. then_by _ _ _ _ _ _ left c.is_refusal.ensures c.if-is_refusal.false c.value_of-src1.ensures
     (then_by _ _ _ _ _ _ right c.is_refusal-2.ensures c.if-is_refusal-2.false c.value_of-src2.ensures
@@ -190,8 +190,8 @@ pub fuse-returns-clause-lowers : goal.fuse-returns-clause-lowers
 fuse-returns-clause-lowers t c =
     let tree = tree_of c.args.self.now.nodes.now c.args.self.now.list.now c.args.self.now.names.now in
     let checked = c.args.self.now.checked in
-    let left = operand_of checked c.peek-f1.ensures.inner c.lower_materializing-r1.ensures.walked c.lower_materializing-r1.ensures.done (λ h. c.peek-f1.ensures.operand _ checked h refl) in
-    let right = operand_of checked c.peek-f2.ensures.inner c.lower_materializing-r2.ensures.walked c.lower_materializing-r2.ensures.done (λ h. c.peek-f2.ensures.operand _ checked h refl) in
+    let left = operand_of checked c.peek-f1.ensures.inner c.lower_materializing-r1.ensures.walked c.lower_materializing-r1.ensures.done (λ h. c.peek-f1.ensures.operand h refl) in
+    let right = operand_of checked c.peek-f2.ensures.inner c.lower_materializing-r2.ensures.walked c.lower_materializing-r2.ensures.done (λ h. c.peek-f2.ensures.operand h refl) in
     rw c.on.ensures
     (compared_jump _ _ c.requires.1 c.node_word-left.ensures c.node_word-right.ensures _ _ _ _
     (λ k e. then_by _ _ _ _ _ _ left c.is_refusal.ensures c.if-is_refusal.false c.value_of-src1.ensures
@@ -222,7 +222,7 @@ unfolding lower_logical
 logical-returns-then-is_refusal-2-clause-lowers t c =
     let tree = tree_of c.args.self.now.nodes.now c.args.self.now.list.now c.args.self.now.names.now in
     let checked = c.args.self.now.checked in
-    let left = into_of checked _ c.peek_into-f1.ensures.inner (λ e m h. c.peek_into-f1.ensures.same _ e m checked h) c.lower_materializing-r1.ensures.walked c.lower_materializing-r1.ensures.done (λ h. c.peek_into-f1.ensures.done _ checked h) in
+    let left = into_of checked _ c.peek_into-f1.ensures.inner c.peek_into-f1.ensures.same c.lower_materializing-r1.ensures.walked c.lower_materializing-r1.ensures.done c.peek_into-f1.ensures.done in
     logical_of checked _ c.node_word-left.ensures c.node_word-right.ensures c.requires.1 _ _
     (then_by tree _ register_at _ _ _ (c.destination-t.ensures.step tree _ _ _) c.is_refusal.ensures c.if-is_refusal.false c.value_of-d.ensures
     (stop_by _ _ register_at _ _ _ left (operand_at _) c.is_refusal-2.ensures c.if-is_refusal-2.true))
@@ -232,7 +232,7 @@ unfolding lower_logical
 logical-returns-then-is_refusal-3-clause-lowers t c =
     let tree = tree_of c.args.self.now.nodes.now c.args.self.now.list.now c.args.self.now.names.now in
     let checked = c.args.self.now.checked in
-    let left = into_of checked _ c.peek_into-f1.ensures.inner (λ e m h. c.peek_into-f1.ensures.same _ e m checked h) c.lower_materializing-r1.ensures.walked c.lower_materializing-r1.ensures.done (λ h. c.peek_into-f1.ensures.done _ checked h) in
+    let left = into_of checked _ c.peek_into-f1.ensures.inner c.peek_into-f1.ensures.same c.lower_materializing-r1.ensures.walked c.lower_materializing-r1.ensures.done c.peek_into-f1.ensures.done in
     let told = jump_words _ _ (c.logical_jump-opcode.ensures.and, c.logical_jump-opcode.ensures.or) c.requires.1 c.reg_of.ensures in
     logical_of checked _ c.node_word-left.ensures c.node_word-right.ensures c.requires.1 _ _
     (then_by tree _ register_at _ _ _ (c.destination-t.ensures.step tree _ _ _) c.is_refusal.ensures c.if-is_refusal.false c.value_of-d.ensures
@@ -252,8 +252,8 @@ unfolding lower_logical
 logical-returns-then-is_refusal-4-clause-lowers t c =
     let tree = tree_of c.args.self.now.nodes.now c.args.self.now.list.now c.args.self.now.names.now in
     let checked = c.args.self.now.checked in
-    let left = into_of checked _ c.peek_into-f1.ensures.inner (λ e m h. c.peek_into-f1.ensures.same _ e m checked h) c.lower_materializing-r1.ensures.walked c.lower_materializing-r1.ensures.done (λ h. c.peek_into-f1.ensures.done _ checked h) in
-    let right = into_of checked _ c.peek_into-f2.ensures.inner (λ e m h. c.peek_into-f2.ensures.same _ e m checked h) c.lower_materializing-r2.ensures.walked c.lower_materializing-r2.ensures.done (λ h. c.peek_into-f2.ensures.done _ checked h) in
+    let left = into_of checked _ c.peek_into-f1.ensures.inner c.peek_into-f1.ensures.same c.lower_materializing-r1.ensures.walked c.lower_materializing-r1.ensures.done c.peek_into-f1.ensures.done in
+    let right = into_of checked _ c.peek_into-f2.ensures.inner c.peek_into-f2.ensures.same c.lower_materializing-r2.ensures.walked c.lower_materializing-r2.ensures.done c.peek_into-f2.ensures.done in
     let told = jump_words _ _ (c.logical_jump-opcode.ensures.and, c.logical_jump-opcode.ensures.or) c.requires.1 c.reg_of.ensures in
     logical_of checked _ c.node_word-left.ensures c.node_word-right.ensures c.requires.1 _ _
     (then_by tree _ register_at _ _ _ (c.destination-t.ensures.step tree _ _ _) c.is_refusal.ensures c.if-is_refusal.false c.value_of-d.ensures
@@ -266,8 +266,8 @@ unfolding lower_logical settled
 logical-returns-clause-lowers t c =
     let tree = tree_of c.args.self.now.nodes.now c.args.self.now.list.now c.args.self.now.names.now in
     let checked = c.args.self.now.checked in
-    let left = into_of checked _ c.peek_into-f1.ensures.inner (λ e m h. c.peek_into-f1.ensures.same _ e m checked h) c.lower_materializing-r1.ensures.walked c.lower_materializing-r1.ensures.done (λ h. c.peek_into-f1.ensures.done _ checked h) in
-    let right = into_of checked _ c.peek_into-f2.ensures.inner (λ e m h. c.peek_into-f2.ensures.same _ e m checked h) c.lower_materializing-r2.ensures.walked c.lower_materializing-r2.ensures.done (λ h. c.peek_into-f2.ensures.done _ checked h) in
+    let left = into_of checked _ c.peek_into-f1.ensures.inner c.peek_into-f1.ensures.same c.lower_materializing-r1.ensures.walked c.lower_materializing-r1.ensures.done c.peek_into-f1.ensures.done in
+    let right = into_of checked _ c.peek_into-f2.ensures.inner c.peek_into-f2.ensures.same c.lower_materializing-r2.ensures.walked c.lower_materializing-r2.ensures.done c.peek_into-f2.ensures.done in
     let few = register_word _ c.is_refusal.ensures c.if-is_refusal.false c.value_of-d.ensures (c.destination-t.ensures.word c.requires.0.1) in
     let told = jump_words _ _ (c.logical_jump-opcode.ensures.and, c.logical_jump-opcode.ensures.or) c.requires.1 c.reg_of.ensures in
     by_answer _ _ _ _ _ _ (c.answered.ensures.state, c.answered.ensures.answer)
@@ -297,7 +297,7 @@ pub lower_binary-returns-then-is_refusal-2-clause-lowers : goal.lower_binary-ret
 lower_binary-returns-then-is_refusal-2-clause-lowers t c =
     let tree = tree_of c.args.self.now.nodes.now c.args.self.now.list.now c.args.self.now.names.now in
     let checked = c.args.self.now.checked in
-    let left = operand_of checked c.peek-f1.ensures.inner c.lower_materializing-r1.ensures.walked c.lower_materializing-r1.ensures.done (λ h. c.peek-f1.ensures.operand _ checked h refl) in
+    let left = operand_of checked c.peek-f1.ensures.inner c.lower_materializing-r1.ensures.walked c.lower_materializing-r1.ensures.done (λ h. c.peek-f1.ensures.operand h refl) in
     operator_of checked _ c.requires.1 c.node_word-left.ensures c.node_word-right.ensures _ _
     (then_by tree _ register_at _ _ _ (c.destination-t.ensures.step tree _ _ _) c.is_refusal.ensures c.if-is_refusal.false c.value_of-d.ensures
     (stop_by tree _ (operand_at _) _ _ _ left (operand_at _) c.is_refusal-2.ensures c.if-is_refusal-2.true))
@@ -312,8 +312,8 @@ pub lower_binary-returns-then-is_refusal-3-clause-lowers : goal.lower_binary-ret
 lower_binary-returns-then-is_refusal-3-clause-lowers t c =
     let tree = tree_of c.args.self.now.nodes.now c.args.self.now.list.now c.args.self.now.names.now in
     let checked = c.args.self.now.checked in
-    let left = operand_of checked c.peek-f1.ensures.inner c.lower_materializing-r1.ensures.walked c.lower_materializing-r1.ensures.done (λ h. c.peek-f1.ensures.operand _ checked h refl) in
-    let right = operand_of checked c.peek-f2.ensures.inner c.lower_materializing-r2.ensures.walked c.lower_materializing-r2.ensures.done (λ h. c.peek-f2.ensures.operand _ checked h refl) in
+    let left = operand_of checked c.peek-f1.ensures.inner c.lower_materializing-r1.ensures.walked c.lower_materializing-r1.ensures.done (λ h. c.peek-f1.ensures.operand h refl) in
+    let right = operand_of checked c.peek-f2.ensures.inner c.lower_materializing-r2.ensures.walked c.lower_materializing-r2.ensures.done (λ h. c.peek-f2.ensures.operand h refl) in
     operator_of checked _ c.requires.1 c.node_word-left.ensures c.node_word-right.ensures _ _
     (then_by tree _ register_at _ _ _ (c.destination-t.ensures.step tree _ _ _) c.is_refusal.ensures c.if-is_refusal.false c.value_of-d.ensures
     (then_by tree _ (operand_at _) _ _ _ left c.is_refusal-2.ensures c.if-is_refusal-2.false c.value_of-src1.ensures
@@ -326,8 +326,8 @@ pub lower_binary-returns-then-src1-src2-clause-lowers : goal.lower_binary-return
 lower_binary-returns-then-src1-src2-clause-lowers t c =
     let tree = tree_of c.args.self.now.nodes.now c.args.self.now.list.now c.args.self.now.names.now in
     let checked = c.args.self.now.checked in
-    let left = operand_of checked c.peek-f1.ensures.inner c.lower_materializing-r1.ensures.walked c.lower_materializing-r1.ensures.done (λ h. c.peek-f1.ensures.operand _ checked h refl) in
-    let right = operand_of checked c.peek-f2.ensures.inner c.lower_materializing-r2.ensures.walked c.lower_materializing-r2.ensures.done (λ h. c.peek-f2.ensures.operand _ checked h refl) in
+    let left = operand_of checked c.peek-f1.ensures.inner c.lower_materializing-r1.ensures.walked c.lower_materializing-r1.ensures.done (λ h. c.peek-f1.ensures.operand h refl) in
+    let right = operand_of checked c.peek-f2.ensures.inner c.lower_materializing-r2.ensures.walked c.lower_materializing-r2.ensures.done (λ h. c.peek-f2.ensures.operand h refl) in
     let few = register_word _ c.is_refusal.ensures c.if-is_refusal.false c.value_of-d.ensures (c.destination-t.ensures.word c.requires.0.1) in
     let both = both_literal _ _ c.if-src1-src2.true in
     let left_literal = word_literal tree _ None _ _ _ left c.is_refusal-2.ensures c.if-is_refusal-2.false c.value_of-src1.ensures both.0 in
@@ -346,8 +346,8 @@ pub lower_binary-returns-then-is_refusal-4-clause-lowers : goal.lower_binary-ret
 lower_binary-returns-then-is_refusal-4-clause-lowers t c =
     let tree = tree_of c.args.self.now.nodes.now c.args.self.now.list.now c.args.self.now.names.now in
     let checked = c.args.self.now.checked in
-    let left = operand_of checked c.peek-f1.ensures.inner c.lower_materializing-r1.ensures.walked c.lower_materializing-r1.ensures.done (λ h. c.peek-f1.ensures.operand _ checked h refl) in
-    let right = operand_of checked c.peek-f2.ensures.inner c.lower_materializing-r2.ensures.walked c.lower_materializing-r2.ensures.done (λ h. c.peek-f2.ensures.operand _ checked h refl) in
+    let left = operand_of checked c.peek-f1.ensures.inner c.lower_materializing-r1.ensures.walked c.lower_materializing-r1.ensures.done (λ h. c.peek-f1.ensures.operand h refl) in
+    let right = operand_of checked c.peek-f2.ensures.inner c.lower_materializing-r2.ensures.walked c.lower_materializing-r2.ensures.done (λ h. c.peek-f2.ensures.operand h refl) in
     let operated = counted_on _ _ _ _ _ c.on-e.ensures (rw c.of.ensures at (c.binary_operation-f.ensures.step c.args.self.now.list.now c.args.self.now.names.now c.lower_materializing-r2.result.state.registers c.lower_materializing-r2.result.state.marks
     (lower_expression free_temp tree) c.if-src1-src2.false)) in
     operator_of checked _ c.requires.1 c.node_word-left.ensures c.node_word-right.ensures _ _
@@ -362,8 +362,8 @@ unfolding settled
 lower_binary-returns-clause-lowers t c =
     let tree = tree_of c.args.self.now.nodes.now c.args.self.now.list.now c.args.self.now.names.now in
     let checked = c.args.self.now.checked in
-    let left = operand_of checked c.peek-f1.ensures.inner c.lower_materializing-r1.ensures.walked c.lower_materializing-r1.ensures.done (λ h. c.peek-f1.ensures.operand _ checked h refl) in
-    let right = operand_of checked c.peek-f2.ensures.inner c.lower_materializing-r2.ensures.walked c.lower_materializing-r2.ensures.done (λ h. c.peek-f2.ensures.operand _ checked h refl) in
+    let left = operand_of checked c.peek-f1.ensures.inner c.lower_materializing-r1.ensures.walked c.lower_materializing-r1.ensures.done (λ h. c.peek-f1.ensures.operand h refl) in
+    let right = operand_of checked c.peek-f2.ensures.inner c.lower_materializing-r2.ensures.walked c.lower_materializing-r2.ensures.done (λ h. c.peek-f2.ensures.operand h refl) in
     let few = register_word _ c.is_refusal.ensures c.if-is_refusal.false c.value_of-d.ensures (c.destination-t.ensures.word c.requires.0.1) in
     let operated = counted_on _ _ _ _ _ c.on-e.ensures (rw c.of.ensures at (c.binary_operation-f.ensures.step c.args.self.now.list.now c.args.self.now.names.now c.lower_materializing-r2.result.state.registers c.lower_materializing-r2.result.state.marks
     (lower_expression free_temp tree) c.if-src1-src2.false)) in
@@ -435,7 +435,7 @@ lower_block-returns-then-is_refusal-3-clause-lowers t c =
     let some_tail = ne_eqb _ _ (rw c.node_word.ensures at there.1) in
     let tried = c.peek_into-f1.ensures in
     let walked = c.lower_materializing-r1.ensures in
-    let tail = rw tail_read at (into_of checked _ tried.inner (λ e m h. tried.same _ e m checked h) walked.walked walked.done (λ h. tried.done _ checked h)) in
+    let tail = rw tail_read at (into_of checked _ tried.inner tried.same walked.walked walked.done tried.done) in
     expression_of checked _ block_kind c.requires.1 _ _
     (then_by tree _ register_at _ _ _ (c.destination-t.ensures.step tree _ _ _) c.is_refusal.ensures c.if-is_refusal.false c.value_of-d.ensures
     (rw some_tail (stop_by tree _ register_at _ _ _ tail (operand_at _) c.is_refusal-2.ensures c.if-is_refusal-3.true)))
@@ -451,7 +451,7 @@ lower_block-returns-clause-lowers t c =
     let some_tail = ne_eqb _ _ (rw c.node_word.ensures at there.1) in
     let tried = c.peek_into-f1.ensures in
     let walked = c.lower_materializing-r1.ensures in
-    let tail = rw tail_read at (into_of checked _ tried.inner (λ e m h. tried.same _ e m checked h) walked.walked walked.done (λ h. tried.done _ checked h)) in
+    let tail = rw tail_read at (into_of checked _ tried.inner tried.same walked.walked walked.done tried.done) in
     by_answer _ _ _ _ _ _ (c.answered-2.ensures.state, c.answered-2.ensures.answer)
     (expression_of checked _ block_kind c.requires.1 _ _
     (then_by tree _ register_at _ _ _ (c.destination-t.ensures.step tree _ _ _) c.is_refusal.ensures c.if-is_refusal.false c.value_of-d.ensures
@@ -487,7 +487,7 @@ unfolding lower_node
 lower_call-returns-then-is_refusal-3-clause-lowers t c =
     let tree = tree_of c.args.self.now.nodes.now c.args.self.now.list.now c.args.self.now.names.now in
     let checked = c.args.self.now.checked in
-    let callee = register_of checked c.peek-f1.ensures.inner c.lower_materializing-r1.ensures.walked c.lower_materializing-r1.ensures.done (λ h. c.peek-f1.ensures.register _ checked h refl) in
+    let callee = register_of checked c.peek-f1.ensures.inner c.lower_materializing-r1.ensures.walked c.lower_materializing-r1.ensures.done (λ h. c.peek-f1.ensures.register h refl) in
     call_of checked _ c.requires.1 c.node_word-callee.ensures _ _
     (then_by tree _ unit_at _ _ _ c.arguments-a.ensures.lowers c.is_refusal.ensures c.if-is_refusal.false refl
     (then_by tree _ register_at _ _ _ (c.destination-t.ensures.step tree _ _ _) c.is_refusal-2.ensures c.if-is_refusal-2.false c.value_of-d.ensures
@@ -498,7 +498,7 @@ unfolding lower_node words_of
 lower_call-returns-then-is_refusal-4-clause-lowers t c =
     let tree = tree_of c.args.self.now.nodes.now c.args.self.now.list.now c.args.self.now.names.now in
     let checked = c.args.self.now.checked in
-    let callee = register_of checked c.peek-f1.ensures.inner c.lower_materializing-r1.ensures.walked c.lower_materializing-r1.ensures.done (λ h. c.peek-f1.ensures.register _ checked h refl) in
+    let callee = register_of checked c.peek-f1.ensures.inner c.lower_materializing-r1.ensures.walked c.lower_materializing-r1.ensures.done (λ h. c.peek-f1.ensures.register h refl) in
     let told = same_fields _ c.reg_of.ensures c.reg_of-2.ensures c.node_word-count.ensures in
     call_of checked _ c.requires.1 c.node_word-callee.ensures _ _
     (then_by tree _ unit_at _ _ _ c.arguments-a.ensures.lowers c.is_refusal.ensures c.if-is_refusal.false refl
@@ -511,7 +511,7 @@ unfolding lower_node words_of settled
 lower_call-returns-clause-lowers t c =
     let tree = tree_of c.args.self.now.nodes.now c.args.self.now.list.now c.args.self.now.names.now in
     let checked = c.args.self.now.checked in
-    let callee = register_of checked c.peek-f1.ensures.inner c.lower_materializing-r1.ensures.walked c.lower_materializing-r1.ensures.done (λ h. c.peek-f1.ensures.register _ checked h refl) in
+    let callee = register_of checked c.peek-f1.ensures.inner c.lower_materializing-r1.ensures.walked c.lower_materializing-r1.ensures.done (λ h. c.peek-f1.ensures.register h refl) in
     let few = register_word _ c.is_refusal-2.ensures c.if-is_refusal-2.false c.value_of-d.ensures (c.destination-t.ensures.word c.requires.0.1) in
     let told = same_fields _ c.reg_of.ensures c.reg_of-2.ensures c.node_word-count.ensures in
     by_answer _ _ _ _ _ _ (c.answered.ensures.state ∙ c.given_back.ensures, c.answered.ensures.answer)
@@ -577,7 +577,7 @@ unfolding lower_node
 lower_if-returns-then-is_refusal-3-clause-lowers t c =
     let tree = tree_of c.args.self.now.nodes.now c.args.self.now.list.now c.args.self.now.names.now in
     let checked = c.args.self.now.checked in
-    let then_value = into_of checked _ c.peek_into-f1.ensures.inner (λ e m h. c.peek_into-f1.ensures.same _ e m checked h) c.lower_materializing-r1.ensures.walked c.lower_materializing-r1.ensures.done (λ h. c.peek_into-f1.ensures.done _ checked h) in
+    let then_value = into_of checked _ c.peek_into-f1.ensures.inner c.peek_into-f1.ensures.same c.lower_materializing-r1.ensures.walked c.lower_materializing-r1.ensures.done c.peek_into-f1.ensures.done in
     if_of checked _ c.requires.1 c.node_word-condition.ensures c.node_word-then_branch.ensures refl _ _
     (then_by tree _ place_at _ _ _ c.lower_jump_if_false-r.ensures.lowers c.is_refusal.ensures c.if-is_refusal.false c.value_of-jump_if_false.ensures
     (then_by tree _ register_at _ _ _ (c.destination-t.ensures.step tree _ _ _) c.is_refusal-2.ensures c.if-is_refusal-2.false c.value_of-d.ensures
@@ -588,7 +588,7 @@ unfolding lower_node words_of
 lower_if-returns-then-is_refusal-4-clause-lowers t c =
     let tree = tree_of c.args.self.now.nodes.now c.args.self.now.list.now c.args.self.now.names.now in
     let checked = c.args.self.now.checked in
-    let then_value = into_of checked _ c.peek_into-f1.ensures.inner (λ e m h. c.peek_into-f1.ensures.same _ e m checked h) c.lower_materializing-r1.ensures.walked c.lower_materializing-r1.ensures.done (λ h. c.peek_into-f1.ensures.done _ checked h) in
+    let then_value = into_of checked _ c.peek_into-f1.ensures.inner c.peek_into-f1.ensures.same c.lower_materializing-r1.ensures.walked c.lower_materializing-r1.ensures.done c.peek_into-f1.ensures.done in
     if_of checked _ c.requires.1 c.node_word-condition.ensures c.node_word-then_branch.ensures refl _ _
     (then_by tree _ place_at _ _ _ c.lower_jump_if_false-r.ensures.lowers c.is_refusal.ensures c.if-is_refusal.false c.value_of-jump_if_false.ensures
     (then_by tree _ register_at _ _ _ (c.destination-t.ensures.step tree _ _ _) c.is_refusal-2.ensures c.if-is_refusal-2.false c.value_of-d.ensures
@@ -600,7 +600,7 @@ unfolding lower_node words_of
 lower_if-returns-in_default-clause-lowers t c =
     let tree = tree_of c.args.self.now.nodes.now c.args.self.now.list.now c.args.self.now.names.now in
     let checked = c.args.self.now.checked in
-    let then_value = into_of checked _ c.peek_into-f1.ensures.inner (λ e m h. c.peek_into-f1.ensures.same _ e m checked h) c.lower_materializing-r1.ensures.walked c.lower_materializing-r1.ensures.done (λ h. c.peek_into-f1.ensures.done _ checked h) in
+    let then_value = into_of checked _ c.peek_into-f1.ensures.inner c.peek_into-f1.ensures.same c.lower_materializing-r1.ensures.walked c.lower_materializing-r1.ensures.done c.peek_into-f1.ensures.done in
     by_answer _ _ _ _ _ _ (c.refused.ensures.state, c.refused.ensures.answer)
     (if_of checked _ c.requires.1 c.node_word-condition.ensures c.node_word-then_branch.ensures refl _ _
     (then_by tree _ place_at _ _ _ c.lower_jump_if_false-r.ensures.lowers c.is_refusal.ensures c.if-is_refusal.false c.value_of-jump_if_false.ensures
@@ -633,8 +633,8 @@ lower_if-returns-then-is_refusal-5-clause-lowers t c =
     let some = rw (← there.0) at there.1 in
     let tree = tree_of c.args.self.now.nodes.now c.args.self.now.list.now c.args.self.now.names.now in
     let checked = c.args.self.now.checked in
-    let then_value = into_of checked _ c.peek_into-f1.ensures.inner (λ e m h. c.peek_into-f1.ensures.same _ e m checked h) c.lower_materializing-r1.ensures.walked c.lower_materializing-r1.ensures.done (λ h. c.peek_into-f1.ensures.done _ checked h) in
-    let else_value = into_of checked _ c.peek_into-f2.ensures.inner (λ e m h. c.peek_into-f2.ensures.same _ e m checked h) c.lower_materializing-r2.ensures.walked c.lower_materializing-r2.ensures.done (λ h. c.peek_into-f2.ensures.done _ checked h) in
+    let then_value = into_of checked _ c.peek_into-f1.ensures.inner c.peek_into-f1.ensures.same c.lower_materializing-r1.ensures.walked c.lower_materializing-r1.ensures.done c.peek_into-f1.ensures.done in
+    let else_value = into_of checked _ c.peek_into-f2.ensures.inner c.peek_into-f2.ensures.same c.lower_materializing-r2.ensures.walked c.lower_materializing-r2.ensures.done c.peek_into-f2.ensures.done in
     if_of checked _ c.requires.1 c.node_word-condition.ensures c.node_word-then_branch.ensures else_read _ _
     (then_by tree _ place_at _ _ _ c.lower_jump_if_false-r.ensures.lowers c.is_refusal.ensures c.if-is_refusal.false c.value_of-jump_if_false.ensures
     (then_by tree _ register_at _ _ _ (c.destination-t.ensures.step tree _ _ _) c.is_refusal-2.ensures c.if-is_refusal-2.false c.value_of-d.ensures
@@ -652,8 +652,8 @@ lower_if-returns-clause-lowers t c =
     let some = rw (← there.0) at there.1 in
     let tree = tree_of c.args.self.now.nodes.now c.args.self.now.list.now c.args.self.now.names.now in
     let checked = c.args.self.now.checked in
-    let then_value = into_of checked _ c.peek_into-f1.ensures.inner (λ e m h. c.peek_into-f1.ensures.same _ e m checked h) c.lower_materializing-r1.ensures.walked c.lower_materializing-r1.ensures.done (λ h. c.peek_into-f1.ensures.done _ checked h) in
-    let else_value = into_of checked _ c.peek_into-f2.ensures.inner (λ e m h. c.peek_into-f2.ensures.same _ e m checked h) c.lower_materializing-r2.ensures.walked c.lower_materializing-r2.ensures.done (λ h. c.peek_into-f2.ensures.done _ checked h) in
+    let then_value = into_of checked _ c.peek_into-f1.ensures.inner c.peek_into-f1.ensures.same c.lower_materializing-r1.ensures.walked c.lower_materializing-r1.ensures.done c.peek_into-f1.ensures.done in
+    let else_value = into_of checked _ c.peek_into-f2.ensures.inner c.peek_into-f2.ensures.same c.lower_materializing-r2.ensures.walked c.lower_materializing-r2.ensures.done c.peek_into-f2.ensures.done in
     let few = register_word _ c.is_refusal-2.ensures c.if-is_refusal-2.false c.value_of-d.ensures (c.destination-t.ensures.word c.requires.0.1) in
     by_answer _ _ _ _ _ _ (c.answered.ensures.state, c.answered.ensures.answer)
     (if_of checked _ c.requires.1 c.node_word-condition.ensures c.node_word-then_branch.ensures else_read _ _
@@ -678,7 +678,7 @@ lower_jump_if_false-returns-then-is_inner-clause-lowers t c =
     rw (jump_false_at c.args.self.now.checked c.args.node) (rw (same.1.0, same.1.1.0, same.1.1.1) at c.lower_jump_if.ensures.lowers)
 
 pub lower_jump_if_false-returns-clause-lowers : goal.lower_jump_if_false-returns-clause-lowers
-lower_jump_if_false-returns-clause-lowers t c = rw (jump_false_at c.args.self.now.checked c.args.node) (c.peek_jump-f.ensures.step _ c.args.self.now.checked (sym c.is_inner.ensures ∙ c.if-is_inner.false))
+lower_jump_if_false-returns-clause-lowers t c = rw (jump_false_at c.args.self.now.checked c.args.node) (c.peek_jump-f.ensures.step (sym c.is_inner.ensures ∙ c.if-is_inner.false))
 
 -- ---- `lower_jump_if`: a comparison is fused, and any other node tested
 
@@ -810,7 +810,7 @@ pub lower_unary-returns-then-is_refusal-2-clause-lowers : goal.lower_unary-retur
 lower_unary-returns-then-is_refusal-2-clause-lowers t c =
     let tree = tree_of c.args.self.now.nodes.now c.args.self.now.list.now c.args.self.now.names.now in
     let checked = c.args.self.now.checked in
-    let operand = register_of checked c.peek-f1.ensures.inner c.lower_materializing-r1.ensures.walked c.lower_materializing-r1.ensures.done (λ h. c.peek-f1.ensures.register _ checked h refl) in
+    let operand = register_of checked c.peek-f1.ensures.inner c.lower_materializing-r1.ensures.walked c.lower_materializing-r1.ensures.done (λ h. c.peek-f1.ensures.register h refl) in
     single_of _ _ c.only_operand-operand.ensures _ _ c.args.self.now.checked c.requires.1 _ _
     (then_by tree _ register_at _ _ _ (c.destination-t.ensures.step tree _ _ _) c.is_refusal.ensures c.if-is_refusal.false c.value_of-d.ensures
     (stop_by tree _ register_at _ _ _ operand (operand_at _) c.is_refusal-2.ensures c.if-is_refusal-2.true))
@@ -820,7 +820,7 @@ unfolding operated
 lower_unary-returns-then-is_refusal-3-clause-lowers t c =
     let tree = tree_of c.args.self.now.nodes.now c.args.self.now.list.now c.args.self.now.names.now in
     let checked = c.args.self.now.checked in
-    let operand = register_of checked c.peek-f1.ensures.inner c.lower_materializing-r1.ensures.walked c.lower_materializing-r1.ensures.done (λ h. c.peek-f1.ensures.register _ checked h refl) in
+    let operand = register_of checked c.peek-f1.ensures.inner c.lower_materializing-r1.ensures.walked c.lower_materializing-r1.ensures.done (λ h. c.peek-f1.ensures.register h refl) in
     let told = single_words _ _ _ c.only_opcode-opcode.ensures.unary c.only_opcode-opcode.ensures.not _ _ ∙ same_fields _ c.reg_of.ensures c.reg_of-2.ensures refl in
     single_of _ _ c.only_operand-operand.ensures _ _ c.args.self.now.checked c.requires.1 _ _
     (then_by tree _ register_at _ _ _ (c.destination-t.ensures.step tree _ _ _) c.is_refusal.ensures c.if-is_refusal.false c.value_of-d.ensures
@@ -832,7 +832,7 @@ unfolding operated settled
 lower_unary-returns-clause-lowers t c =
     let tree = tree_of c.args.self.now.nodes.now c.args.self.now.list.now c.args.self.now.names.now in
     let checked = c.args.self.now.checked in
-    let operand = register_of checked c.peek-f1.ensures.inner c.lower_materializing-r1.ensures.walked c.lower_materializing-r1.ensures.done (λ h. c.peek-f1.ensures.register _ checked h refl) in
+    let operand = register_of checked c.peek-f1.ensures.inner c.lower_materializing-r1.ensures.walked c.lower_materializing-r1.ensures.done (λ h. c.peek-f1.ensures.register h refl) in
     let few = register_word _ c.is_refusal.ensures c.if-is_refusal.false c.value_of-d.ensures (c.destination-t.ensures.word c.requires.0.1) in
     let told = single_words _ _ _ c.only_opcode-opcode.ensures.unary c.only_opcode-opcode.ensures.not _ _ ∙ same_fields _ c.reg_of.ensures c.reg_of-2.ensures refl in
     by_answer _ _ _ _ _ _ (c.answered.ensures.state ∙ c.given_back.ensures, c.answered.ensures.answer)
@@ -861,7 +861,7 @@ pub property-returns-then-is_refusal-2-clause-lowers : goal.property-returns-the
 property-returns-then-is_refusal-2-clause-lowers t c =
     let tree = tree_of c.args.self.now.nodes.now c.args.self.now.list.now c.args.self.now.names.now in
     let checked = c.args.self.now.checked in
-    let object = register_of checked c.peek-f1.ensures.inner c.lower_materializing-r1.ensures.walked c.lower_materializing-r1.ensures.done (λ h. c.peek-f1.ensures.register _ checked h refl) in
+    let object = register_of checked c.peek-f1.ensures.inner c.lower_materializing-r1.ensures.walked c.lower_materializing-r1.ensures.done (λ h. c.peek-f1.ensures.register h refl) in
     property_of checked _ c.requires.1 c.node_word-object.ensures c.node_word-property.ensures _ _
     (then_by tree _ register_at _ _ _ (c.destination-t.ensures.step tree _ _ _) c.is_refusal.ensures c.if-is_refusal.false c.value_of-d.ensures
     (stop_by tree _ register_at _ _ _ object (operand_at _) c.is_refusal-2.ensures c.if-is_refusal-2.true))
@@ -871,7 +871,7 @@ unfolding fetched
 property-returns-then-is_refusal-3-clause-lowers t c =
     let tree = tree_of c.args.self.now.nodes.now c.args.self.now.list.now c.args.self.now.names.now in
     let checked = c.args.self.now.checked in
-    let object = register_of checked c.peek-f1.ensures.inner c.lower_materializing-r1.ensures.walked c.lower_materializing-r1.ensures.done (λ h. c.peek-f1.ensures.register _ checked h refl) in
+    let object = register_of checked c.peek-f1.ensures.inner c.lower_materializing-r1.ensures.walked c.lower_materializing-r1.ensures.done (λ h. c.peek-f1.ensures.register h refl) in
     property_of checked _ c.requires.1 c.node_word-object.ensures c.node_word-property.ensures _ _
     (then_by tree _ register_at _ _ _ (c.destination-t.ensures.step tree _ _ _) c.is_refusal.ensures c.if-is_refusal.false c.value_of-d.ensures
     (then_by tree _ register_at _ _ _ object c.is_refusal-2.ensures c.if-is_refusal-2.false c.value_of-src.ensures
@@ -882,7 +882,7 @@ unfolding fetched words_of
 property-returns-then-is_refusal-4-clause-lowers t c =
     let tree = tree_of c.args.self.now.nodes.now c.args.self.now.list.now c.args.self.now.names.now in
     let checked = c.args.self.now.checked in
-    let object = register_of checked c.peek-f1.ensures.inner c.lower_materializing-r1.ensures.walked c.lower_materializing-r1.ensures.done (λ h. c.peek-f1.ensures.register _ checked h refl) in
+    let object = register_of checked c.peek-f1.ensures.inner c.lower_materializing-r1.ensures.walked c.lower_materializing-r1.ensures.done (λ h. c.peek-f1.ensures.register h refl) in
     let told = same_fields _ c.reg_of.ensures c.reg_of-2.ensures refl in
     property_of checked _ c.requires.1 c.node_word-object.ensures c.node_word-property.ensures _ _
     (then_by tree _ register_at _ _ _ (c.destination-t.ensures.step tree _ _ _) c.is_refusal.ensures c.if-is_refusal.false c.value_of-d.ensures
@@ -895,7 +895,7 @@ unfolding fetched words_of settled
 property-returns-clause-lowers t c =
     let tree = tree_of c.args.self.now.nodes.now c.args.self.now.list.now c.args.self.now.names.now in
     let checked = c.args.self.now.checked in
-    let object = register_of checked c.peek-f1.ensures.inner c.lower_materializing-r1.ensures.walked c.lower_materializing-r1.ensures.done (λ h. c.peek-f1.ensures.register _ checked h refl) in
+    let object = register_of checked c.peek-f1.ensures.inner c.lower_materializing-r1.ensures.walked c.lower_materializing-r1.ensures.done (λ h. c.peek-f1.ensures.register h refl) in
     let few = register_word _ c.is_refusal.ensures c.if-is_refusal.false c.value_of-d.ensures (c.destination-t.ensures.word c.requires.0.1) in
     let told = same_fields _ c.reg_of.ensures c.reg_of-2.ensures refl in
     by_answer _ _ _ _ _ _ (c.answered.ensures.state ∙ c.given_back.ensures, c.answered.ensures.answer)

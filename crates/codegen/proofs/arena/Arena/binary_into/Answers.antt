@@ -8,24 +8,28 @@ use Rattle.codegen.proofs.FlatNodes.{needing_none, needing_given, given_operand,
 use Rattle.codegen.proofs.arena.Arena.binary_into.Goals as goal
 
 pub returns-then-d-eq-NONE-clause-step : goal.returns-then-d-eq-NONE-clause-step
-returns-then-d-eq-NONE-clause-step c = rw c.refused.ensures (λ list rs n checked h. needing_none _ _ _ _ (operand_at _) c.if-d-eq-NONE.true)
+returns-then-d-eq-NONE-clause-step c = rw c.refused.ensures (λ rs n h. needing_none _ _ _ _ (operand_at _) c.if-d-eq-NONE.true)
 
 pub returns-in-Err-clause-step : goal.returns-in-Err-clause-step
 returns-in-Err-clause-step c =
+    let list = c.args.self.now.list.now in
+    let checked = c.args.self.now.checked in
     let leaves = sym c.are_leaves.ensures ∙ c.if-not-are_leaves.false in
     rw c.refused-in-Err.ensures
-    (λ list rs n checked h.
+    (λ rs n h.
     needing_given _ _ _ c.if-d-eq-NONE.false
     (binary_of _ _ _ _ _ c.requires.1.0 refl c.node_word-left.ensures c.node_word-right.ensures _ checked _
     (stop_leaves _ _ _ leaves list _ (c.leaf_operands.ensures.undeclared _ c.in-Err.is) (omega arith) (omega arith) _ _ (operand_at _))))
 
 pub returns-in-Ok-clause-step : goal.returns-in-Ok-clause-step
 returns-in-Ok-clause-step c =
+    let list = c.args.self.now.list.now in
+    let checked = c.args.self.now.checked in
     let leaves = sym c.are_leaves.ensures ∙ c.if-not-are_leaves.false in
     let nodes = c.args.self.now.nodes.now in
     let names = c.args.self.now.names.now in
     let words = c.leaf_operands.ensures.operands _ _ c.in-Ok.is in
-    λ list rs n checked h.
+    λ rs n h.
     needing_given _ _ _ c.if-d-eq-NONE.false
     (binary_of _ _ _ _ _ c.requires.1.0 refl c.node_word-left.ensures c.node_word-right.ensures _ checked _
     (then_leaves _ _ _ leaves list _ words _ _

@@ -11,23 +11,25 @@ use Rattle.codegen.proofs.arena.Arena.compared_leaves.Goals as goal
 
 pub returns-in-Err-clause-step : goal.returns-in-Err-clause-step
 returns-in-Err-clause-step c =
+    let list = c.args.self.now.list.now in
     let operator_read = rw c.node_word.ensures at c.of-operator.ensures in
     let compares = compares_some _ (sym c.is_comparison.ensures ∙ c.if-not-is_comparison.false) in
     let leaves = sym c.are_leaves.ensures ∙ c.if-not-are_leaves.false in
     rw c.refused.ensures
-    (λ list rs n checked h.
+    (λ rs n h.
     compared_of _ _ _ _ _ c.requires.1 operator_read c.node_word-left.ensures c.node_word-right.ensures _ _ _ _ compares.0 compares.1
     (stop_leaves _ _ _ leaves list _ (c.leaf_operands.ensures.undeclared _ c.in-Err.is) (omega arith) (omega arith) _ _ (λ w. place_at w)))
 
 pub returns-in-Ok-clause-step : goal.returns-in-Ok-clause-step
 returns-in-Ok-clause-step c =
+    let list = c.args.self.now.list.now in
     let operator_read = rw c.node_word.ensures at c.of-operator.ensures in
     let compares = compares_some _ (sym c.is_comparison.ensures ∙ c.if-not-is_comparison.false) in
     let leaves = sym c.are_leaves.ensures ∙ c.if-not-are_leaves.false in
     let nodes = c.args.self.now.nodes.now in
     let names = c.args.self.now.names.now in
     let words = c.leaf_operands.ensures.operands _ _ c.in-Ok.is in
-    λ list rs n checked h.
+    λ rs n h.
     compared_of _ _ _ _ _ c.requires.1 operator_read c.node_word-left.ensures c.node_word-right.ensures _ _ _ _ compares.0 compares.1
     (then_leaves _ _ _ leaves list _ words _ _
     (fused_leaves _ _ _ leaves list _ words _ _ _ _ _

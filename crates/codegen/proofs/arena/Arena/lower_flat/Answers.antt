@@ -16,12 +16,12 @@ unfolding operand_at settled
 returns-then-eq-clause-step c =
     let kind = ltb-true _ _ (rw c.kind-kind.ensures at (sym c.is_literal.ensures ∙ c.if-is_literal.true)) in
     rw c.answered.ensures
-    (λ list rs n checked h. ap settled (literal_itself _ _ _ _ _ kind (same_true the_type tt _ _ (sym c.eq.ensures ∙ c.if-eq.true))) ∙ sym (seen_word _ (operand_at _) _ _ (omega arith)))
+    (λ rs n h. ap settled (literal_itself _ _ _ _ _ kind (same_true the_type tt _ _ (sym c.eq.ensures ∙ c.if-eq.true))) ∙ sym (seen_word _ (operand_at _) _ _ (omega arith)))
 
 pub returns-then-is_literal-clause-step : goal.returns-then-is_literal-clause-step
 returns-then-is_literal-clause-step c =
     let kind = ltb-true _ _ (rw c.kind-kind.ensures at (sym c.is_literal.ensures ∙ c.if-is_literal.true)) in
-    λ list rs n checked h.
+    λ rs n h.
     ap settled (literal_flat _ _ _ _ _ kind (same_false the_type _ _ (sym c.eq.ensures ∙ c.if-eq.false)))
     ∙ loaded_operand _ _ _ _ _ _ _ c.requires.1.0 c.literal_into.ensures.word (c.literal_into.ensures.step _ rs n)
 
@@ -38,9 +38,9 @@ returns-then-eq-2-clause-step c =
       | then-eq-3 w ↦ rw w.dest-is (sym (into_dest _ _ (same_true the_type tt _ _ (sym c.eq-then-eq-2.ensures ∙ w.if-eq-3.true))))
       | else-eq-3 w ↦ rw w.dest-is (sym (own_dest _ _ (same_false the_type _ _ (sym c.eq-then-eq-2.ensures ∙ w.if-eq-3.false))))
     ] in
-    λ list rs n checked h. ap settled (name_flat _ _ _ _ _ kind) ∙ (rw dest at (c.name_into.ensures.step list rs n))
+    λ rs n h. ap settled (name_flat _ _ _ _ _ kind) ∙ (rw dest at (c.name_into.ensures.step c.args.self.now.list.now rs n))
 
 pub returns-clause-step : goal.returns-clause-step
 returns-clause-step c =
     let kind = kind_same _ Kind.Binary c.kind-kind.ensures c.ne.ensures c.if-ne.false in
-    λ list rs n checked h. ap settled (binary_flat _ _ _ _ _ kind) ∙ c.binary_into.ensures.step list rs n checked (sym (flat_binary _ _ kind) ∙ h)
+    λ rs n h. ap settled (binary_flat _ _ _ _ _ kind) ∙ c.binary_into.ensures.step rs n (sym (flat_binary _ _ kind) ∙ h)

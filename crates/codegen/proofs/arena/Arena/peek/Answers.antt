@@ -24,7 +24,7 @@ returns-then-is_simple-clause-operand c =
     let held : Held c.args.state c.if-f-register.s c.take-taken.result.set c.number_at-register.result c.lower_flat-f.result.answer =
     elim c.if-f-register.branch [ then-f-register w ↦ held_taken _ _ w.s-is w.if-f-register.true | else-f-register w ↦ held_left _ _ w.s-is w.if-f-register.false ] in
     rw c.on.ensures
-    (peeked_operand _ _ _ _ _ _ _ _ _ _ _ _ c.if-f-register.s _ _ c.take-taken.ensures c.number_at-register.ensures held c.of.ensures simple small tried.inner tried.word tried.step)
+    (peeked_operand _ _ _ _ _ _ _ _ _ _ _ _ c.if-f-register.s _ _ c.take-taken.ensures c.number_at-register.ensures held c.of.ensures simple small tried.inner tried.word c.args.self.now.list.now c.args.self.now.checked tried.step)
 
 pub returns-then-is_simple-clause-register : goal.returns-then-is_simple-clause-register
 returns-then-is_simple-clause-register c =
@@ -34,7 +34,7 @@ returns-then-is_simple-clause-register c =
     let held : Held c.args.state c.if-f-register.s c.take-taken.result.set c.number_at-register.result c.lower_flat-f.result.answer =
     elim c.if-f-register.branch [ then-f-register w ↦ held_taken _ _ w.s-is w.if-f-register.true | else-f-register w ↦ held_left _ _ w.s-is w.if-f-register.false ] in
     rw c.on.ensures
-    (peeked_register _ _ _ _ _ _ _ _ _ _ _ _ c.if-f-register.s _ _ c.take-taken.ensures c.number_at-register.ensures held c.of.ensures simple small tried.inner tried.word tried.step)
+    (peeked_register _ _ _ _ _ _ _ _ _ _ _ _ c.if-f-register.s _ _ c.take-taken.ensures c.number_at-register.ensures held c.of.ensures simple small tried.inner tried.word c.args.self.now.list.now c.args.self.now.checked tried.step)
 
 pub returns-then-is_simple-clause-inner : goal.returns-then-is_simple-clause-inner
 returns-then-is_simple-clause-inner c =
@@ -51,9 +51,9 @@ returns-then-is_simple-clause-inner c =
 pub returns-clause-operand : goal.returns-clause-operand
 returns-clause-operand c =
     let small : c.args.node < word_end = omega arith in
-    λ list checked told. absurd (inner_only _ _ c.inner.ensures small told)
+    λ told. absurd (inner_only _ _ c.inner.ensures small told)
 
 pub returns-clause-register : goal.returns-clause-register
 returns-clause-register c =
     let small : c.args.node < word_end = omega arith in
-    λ list checked told. absurd (inner_only _ _ c.inner.ensures small told)
+    λ told. absurd (inner_only _ _ c.inner.ensures small told)

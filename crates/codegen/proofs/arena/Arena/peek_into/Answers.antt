@@ -11,10 +11,10 @@ returns-then-is_simple-clause-done c =
     let tried = c.lower_flat-f.ensures in
     let simple = simple_kind _ c.is_simple.ensures c.if-is_simple.true in
     rw c.on.ensures
-    (λ list checked told.
-    ap settled (tail.same list _ _ _ checked)
-    ∙ flat_into checked _ _ _ _ _ simple c.requires.1
-    (rw c.of.ensures at (tried.step list c.args.state.registers c.args.state.marks checked (was_flat _ _ _ small tried.inner told))))
+    (λ told.
+    ap settled (tail.same c.args.self.now.list.now _ _ _ c.args.self.now.checked)
+    ∙ flat_into c.args.self.now.checked _ _ _ _ _ simple c.requires.1
+    (rw c.of.ensures at (tried.step c.args.state.registers c.args.state.marks (was_flat _ _ _ small tried.inner told))))
 
 pub returns-then-is_simple-clause-inner : goal.returns-then-is_simple-clause-inner
 returns-then-is_simple-clause-inner c =
@@ -30,9 +30,9 @@ returns-then-is_simple-clause-same c =
     let small : c.tail_of-tail.result < word_end = omega (arith, c.tail_of-tail.ensures.inside.1) in
     let tried = c.lower_flat-f.ensures in
     rw c.on.ensures
-    (λ list e m checked over. let left = left_over _ _ _ small tried.inner tried.word over in rw left.2 (tail.same list _ e m checked))
+    (λ e m over. let left = left_over _ _ _ small tried.inner tried.word over in rw left.2 (tail.same c.args.self.now.list.now _ e m c.args.self.now.checked))
 
 pub returns-clause-done : goal.returns-clause-done
 returns-clause-done c =
     let small : c.tail_of-tail.result < word_end = omega (arith, c.tail_of-tail.ensures.inside.1) in
-    λ list checked told. absurd (inner_only _ _ c.inner.ensures small told)
+    λ told. absurd (inner_only _ _ c.inner.ensures small told)
