@@ -66,7 +66,7 @@ impl Arena<'_> {
         }
     }
 
-    // The operand of a literal; nil for any other node. A chain of tests: as a `match` on the kind it takes a fifth more time.
+    // The operand of a literal; nil for any other node. A chain of tests: as a `match` on the kind, deep trees take a tenth more time.
     pub(crate) fn literal(&self, node: u32) -> Operand
         requires { InArena self.now.nodes.now node }
         ensures { result ≡ literal (node_at (words self.now.nodes.now) node) }

@@ -2,7 +2,7 @@
 // that it names, which are lower. One function an arm, in kaori's order. `dest` is the register that is to hold the value; where there is none, any register
 // will do. A child is tried first (`peek`, `peek_into`), and walked if it is not flat. A state that is passed on is a copy of its own: the walk's own state
 // then stays in machine registers. The lines that take a destination, try a child and walk it, or end an arm stand in each arm: with one function for a child,
-// bushy trees took a fifth and properties a sixth more time, and with one for the end of unary, call and property, properties a twelfth.
+// bushy trees took a fifth and properties a quarter more time, and with one for the end of unary, call and property, properties a tenth.
 ghost use Rattle.std.specs.Prelude.{◌≡◌, ◌≢◌, ◌⊎◌, true, false, List, [], ◌∷◌, ℕ, Option};
 ghost use Rattle.environment.specs.declared.Register.{Register};
 ghost use Rattle.words.specs.Words.{words};
@@ -43,7 +43,7 @@ use words::word;
 
 impl Arena<'_> {
     // A node as an expression, by its kind. A literal is LITERAL, and nothing is done. The arms that go deep are asked for first: the compiler inlines what it
-    // takes for frequent. As one `match` on the kind, trees of all forms took a tenth to a third more time.
+    // takes for frequent. As one `match` on the kind, deep and bushy trees took a fifth more time.
     #[cycle(walk)]
     fn lower_expression(
         &self,
@@ -176,7 +176,7 @@ impl Arena<'_> {
     }
 
     // Binary, "Two literals are both loaded": each into a register that is taken, both given back. The last lines are those of `lower_binary` again: with one function
-    // for both ends, bushy trees took a seventh more time.
+    // for both ends, bushy trees took a tenth more time.
     fn lower_literals(
         &self,
         buffers: &mut Buffers,
