@@ -18,7 +18,7 @@ use Rattle.environment.specs.declared.RegisterSet.{RegisterSet}
 use Rattle.environment.specs.declared.Taken.{Taken}
 use Rattle.environment.specs.Registers.{taken}
 use Rattle.environment.specs.Environment.{lookup}
-use Rattle.environment.proofs.Laws.{place_takes, take_refused, lookup_found}
+use Rattle.environment.proofs.Laws.{register_takes, take_refused, lookup_found}
 use Rattle.syntax.specs.declared.ast.Node.{Node}
 use Rattle.syntax.specs.Ast.{node_word, node_at}
 use Rattle.runtime.specs.declared.operand.Operand.{Operand}
@@ -131,18 +131,18 @@ abbrev keeping : Made → RegisterSet → ℕ → ℕ → Made → Made
 keeping m set d a m' = with_registers (holding (registers_of m) set d a) m'
 
 -- d is the register taken beforehand; the trial answered a
-module _ (t : Tree) (n : Node) (m m' : Made) (a d : ℕ) {after : Taken} (took : after ≡ taken (registers_of m)) (number : d ≡ number_at after.place) where
+module _ (t : Tree) (n : Node) (m m' : Made) (a d : ℕ) {after : Taken ℕ} (took : after ≡ taken (registers_of m)) (number : d ≡ number_at after.register) where
   -- where there is none, the registers stay
   none_held_lem : d ≡ none → holding (registers_of m) after.set d a ≡ registers_of m
   unfolding number_at
-  none_held_lem h = rw (set_stays (taken (registers_of m)).place refl (sym (number ∙ rw took) ∙ h)) (either (eqb a d))
+  none_held_lem h = rw (set_stays (taken (registers_of m)).register refl (sym (number ∙ rw took) ∙ h)) (either (eqb a d))
     where
       either : (b : Bool) → cond b (registers_of m) (registers_of m) ≡ registers_of m
       either true = refl
       either false = refl
 
-      set_stays : (p : Result ℕ Refusal) → (taken (registers_of m)).place ≡ p → number_at p ≡ none → after.set ≡ registers_of m
-      set_stays (Ok r) e z = absurd (omega (arith, (place_takes (registers_of m) r e).in_range))
+      set_stays : (p : Result ℕ Refusal) → (taken (registers_of m)).register ≡ p → number_at p ≡ none → after.set ≡ registers_of m
+      set_stays (Ok r) e z = absurd (omega (arith, (register_takes (registers_of m) r e).in_range))
       set_stays (Err refusal) e z = rw took (take_refused (registers_of m) refusal e).unchanged
 
   -- an answer that is no temporary takes none
@@ -252,7 +252,7 @@ flat_into {t} checked i d m m' a simple few tried = go (dec_lt (node_word t.node
         (expression_register t i (no_literal checked i later) (Some (register_at d)) m) (operand later (ℕ_discrete (node_word t.nodes i 0) name_kind))
 
 -- with no destination, where d is the register taken beforehand
-module _ {t : Tree} (checked : Checked t) (i : ℕ) (asked : Asked) (m m' : Made) (a d : ℕ) {after : Taken} (took : after ≡ taken (registers_of m)) (number : d ≡ number_at after.place)
+module _ {t : Tree} (checked : Checked t) (i : ℕ) (asked : Asked) (m m' : Made) (a d : ℕ) {after : Taken ℕ} (took : after ≡ taken (registers_of m)) (number : d ≡ number_at after.register)
     (simple : node_word t.nodes i 0 ≤ binary_kind) (word : WordOrRefusal a)
     (tried : (rs : RegisterSet) → settled (flat_node t asked d i (with_registers rs m)) ≡ seen t (operand_at (node t i)) (with_registers rs m') a) where
   name_stays : node_word t.nodes i 0 ≡ name_kind → Holds (λ x m₁. Stays (source x)) (lower_expression free_temp t i None m)
@@ -325,8 +325,8 @@ module _ {t : Tree} (checked : Checked t) (i : ℕ) (asked : Asked) (m m' : Made
           (expression_register t i (no_literal checked i later) None m) (later_operand later (λ e. cc))
 
 -- the same, by what `lower_flat` ensures, and by the state afterwards
-module _ (nodes names code code' pool pool' marks marks' : List ℕ) (i : ℕ) (asked : Asked) (d : ℕ) (s s' : State) (counts : Counts) (f : AnswerAndCounts) {after : Taken} {A : Type 0}
-    (took : after ≡ taken s.registers) (number : d ≡ number_at after.place) (held : Held s s' after.set d f.answer)
+module _ (nodes names code code' pool pool' marks marks' : List ℕ) (i : ℕ) (asked : Asked) (d : ℕ) (s s' : State) (counts : Counts) (f : AnswerAndCounts) {after : Taken ℕ} {A : Type 0}
+    (took : after ≡ taken s.registers) (number : d ≡ number_at after.register) (held : Held s s' after.set d f.answer)
     (of : counts ≡ record { instructions = s.instructions; constants = s.constants }) (simple : node_word_of nodes i 0 ≤ binary_kind) (small : i < word_end)
     (left : is_flat nodes i ≡ false → (f ≡ record { counts = counts; answer = word_end + i }) × A)
     (word : is_flat nodes i ≡ true → WordOrRefusal f.answer)

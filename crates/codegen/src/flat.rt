@@ -273,9 +273,8 @@ impl Arena<'_> {
             let registers = s.registers;
             let taken = registers.take();
             let set = taken.set;
-            let place = taken.place;
             // NONE where no register is free. As an Option it was slower: the flat nodes then took a few per cent more time.
-            let register = number_at(place);
+            let register = number_at(taken.register);
             let f = self.lower_flat(buffers, Counts::of(s), node, asked, register);
             // It was used if it is the answer: a flag would say that a second time.
             if f.answer == (register as u64) {

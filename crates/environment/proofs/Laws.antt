@@ -50,11 +50,11 @@ unfolding held
 held_of_same_free s t j h = rw h
 
 -- what `taken` is, by the smallest free register
-abbrev taken_at : RegisterSet → Taken
-taken_at s = record { set = without s (smallest_free s.words); place = Ok (smallest_free s.words) }
+abbrev taken_at : RegisterSet → Taken ℕ
+taken_at s = record { set = without s (smallest_free s.words); register = Ok (smallest_free s.words) }
 
-abbrev taken_none : RegisterSet → Taken
-taken_none s = record { set = s; place = Err Refusal.Registers }
+abbrev taken_none : RegisterSet → Taken ℕ
+taken_none s = record { set = s; register = Err Refusal.Registers }
 
 module _ (s : RegisterSet) where
   smallest_takes : smallest_free s.words < 256 → Takes s (smallest_free s.words) (without s (smallest_free s.words))
@@ -74,31 +74,31 @@ module _ (s : RegisterSet) where
       }
 
   -- a register answered is the smallest that was not held, and is held now
-  pub takes : (r : ℕ) (t : RegisterSet) → taken s ≡ record { set = t; place = Ok r } → Takes s r t
+  pub takes : (r : ℕ) (t : RegisterSet) → taken s ≡ record { set = t; register = Ok r } → Takes s r t
   unfolding taken
   takes r t h = go (ltb (smallest_free s.words) 256) refl h
     where
-      go : (b : Bool) → ltb (smallest_free s.words) 256 ≡ b → cond b (taken_at s) (taken_none s) ≡ record { set = t; place = Ok r } → Takes s r t
+      go : (b : Bool) → ltb (smallest_free s.words) 256 ≡ b → cond b (taken_at s) (taken_none s) ≡ record { set = t; register = Ok r } → Takes s r t
       go true q p =
-          let places : Ok (smallest_free s.words) ≡ Ok r = ap (λ (x : Taken). x.place) p in
+          let registers : Ok (smallest_free s.words) ≡ Ok r = ap (λ (x : Taken ℕ). x.register) p in
           let same : smallest_free s.words ≡ r = cc in
-          let sets : without s (smallest_free s.words) ≡ t = ap (λ (x : Taken). x.set) p in
+          let sets : without s (smallest_free s.words) ≡ t = ap (λ (x : Taken ℕ). x.set) p in
           subst (λ k. Takes s k t) same (subst (λ u. Takes s (smallest_free s.words) u) sets (smallest_takes (ltb-true _ _ q)))
       go false q p =
-          let places : Err Refusal.Registers ≡ Ok r = ap (λ (x : Taken). x.place) p in
+          let registers : Err Refusal.Registers ≡ Ok r = ap (λ (x : Taken ℕ). x.register) p in
           let z : ◌≡◌ {A = ℕ} 0 1 = cc in
           absurd (omega arith)
 
   -- the same, of the parts of the answer
-  pub place_takes : (r : ℕ) → (taken s).place ≡ Ok r → Takes s r (taken s).set
-  place_takes r h = takes r (taken s).set (ap (λ (p : Result ℕ Refusal). record { set = (taken s).set; place = p }) h)
+  pub register_takes : (r : ℕ) → (taken s).register ≡ Ok r → Takes s r (taken s).set
+  register_takes r h = takes r (taken s).set (ap (λ (p : Result ℕ Refusal). record { set = (taken s).set; register = p }) h)
 
   -- a refusal is that of registers, leaves the set, and is answered only where all 256 are held
-  pub take_refused : (refusal : Refusal) → (taken s).place ≡ Err refusal → Refuses s refusal (taken s).set
+  pub take_refused : (refusal : Refusal) → (taken s).register ≡ Err refusal → Refuses s refusal (taken s).set
   unfolding taken
   take_refused refusal h = go (ltb (smallest_free s.words) 256) refl h
     where
-      go : (b : Bool) → ltb (smallest_free s.words) 256 ≡ b → (cond b (taken_at s) (taken_none s)).place ≡ Err refusal →
+      go : (b : Bool) → ltb (smallest_free s.words) 256 ≡ b → (cond b (taken_at s) (taken_none s)).register ≡ Err refusal →
           Refuses s refusal (cond b (taken_at s) (taken_none s)).set
       go true q p = let z : ◌≡◌ {A = ℕ} 0 1 = cc in absurd (omega arith)
       go false q p = record {
@@ -108,7 +108,7 @@ module _ (s : RegisterSet) where
       }
 
   -- and it is answered wherever all 256 are held
-  pub take_full : ((j : ℕ) → j < 256 → held s j ≡ true) → taken s ≡ record { set = s; place = Err Refusal.Registers }
+  pub take_full : ((j : ℕ) → j < 256 → held s j ≡ true) → taken s ≡ record { set = s; register = Err Refusal.Registers }
   unfolding taken
   take_full h = rw (smallest_free_none s.words (λ j l. not_free j l (free s.words j) refl))
     where
@@ -117,10 +117,10 @@ module _ (s : RegisterSet) where
       not_free j l false e = refl
 
   -- where some register is not held, one is answered
-  pub take_answered : (r : ℕ) → r < 256 → held s r ≡ false → (q : ℕ) × ((taken s).place ≡ Ok q)
-  take_answered r l h = go (taken s).place refl
+  pub take_answered : (r : ℕ) → r < 256 → held s r ≡ false → (q : ℕ) × ((taken s).register ≡ Ok q)
+  take_answered r l h = go (taken s).register refl
     where
-      go : (p : Result ℕ Refusal) → (taken s).place ≡ p → (q : ℕ) × ((taken s).place ≡ Ok q)
+      go : (p : Result ℕ Refusal) → (taken s).register ≡ p → (q : ℕ) × ((taken s).register ≡ Ok q)
       go (Ok q) e = (q, e)
       go (Err refusal) e = absurd (true≢false (sym ((take_refused refusal e).all_held r l) ∙ h))
 
@@ -144,10 +144,10 @@ module _ {s t : RegisterSet} {r : ℕ} (k : Takes s r t) (sound : Sound s) where
 
 -- the set of any answer is sound, a refusal's too
 pub taken_sound : (s : RegisterSet) → Sound s → Sound (taken s).set
-taken_sound s sound = go (taken s).place refl
+taken_sound s sound = go (taken s).register refl
   where
-    go : (p : Result ℕ Refusal) → (taken s).place ≡ p → Sound (taken s).set
-    go (Ok r) e = take_sound (place_takes s r e) sound
+    go : (p : Result ℕ Refusal) → (taken s).register ≡ p → Sound (taken s).set
+    go (Ok r) e = take_sound (register_takes s r e) sound
     go (Err refusal) e = rw (take_refused s refusal e).unchanged sound
 
 -- a held register given back to a sound set is not held, and nothing else changes
@@ -223,18 +223,18 @@ module _ (kind : ℕ → Register) (s : RegisterSet) where
   -- a register answered is taken
   pub allocates : (register : Register) → (allocated kind s).register ≡ Ok register → Allocates kind s register (allocated kind s).set
   unfolding allocated found
-  allocates register h = go (taken s).place refl h
+  allocates register h = go (taken s).register refl h
     where
-      go : (p : Result ℕ Refusal) → (taken s).place ≡ p → found kind p ≡ Ok register → Allocates kind s register (taken s).set
-      go (Ok r) e q = record { number = r; of_kind = cc; takes = place_takes s r e }
+      go : (p : Result ℕ Refusal) → (taken s).register ≡ p → found kind p ≡ Ok register → Allocates kind s register (taken s).set
+      go (Ok r) e q = record { number = r; of_kind = cc; takes = register_takes s r e }
       go (Err refusal) e q = let z : ◌≡◌ {A = ℕ} 0 1 = cc in absurd (omega arith)
 
   -- a refusal is that of the take
   pub allocation_refused : (refusal : Refusal) → (allocated kind s).register ≡ Err refusal → Refuses s refusal (allocated kind s).set
   unfolding allocated found
-  allocation_refused refusal h = go (taken s).place refl h
+  allocation_refused refusal h = go (taken s).register refl h
     where
-      go : (p : Result ℕ Refusal) → (taken s).place ≡ p → found kind p ≡ Err refusal → Refuses s refusal (taken s).set
+      go : (p : Result ℕ Refusal) → (taken s).register ≡ p → found kind p ≡ Err refusal → Refuses s refusal (taken s).set
       go (Ok r) e q = let z : ◌≡◌ {A = ℕ} 0 1 = cc in absurd (omega arith)
       go (Err other) e q = let same : other ≡ refusal = cc in rw same at (take_refused s other e)
 

@@ -3,7 +3,7 @@ use Rattle.std.specs.Prelude.{ℕ, zero, suc, List, cond, eqb, get_or, Result, O
 use Rattle.diagnostics.specs.declared.Refusal.{Refusal}
 use Rattle.environment.specs.declared.Register.{Register}
 use Rattle.environment.specs.declared.RegisterSet.{RegisterSet}
-use Rattle.environment.specs.declared.Allocated.{Allocated}
+use Rattle.environment.specs.declared.Taken.{Taken}
 use Rattle.environment.specs.Registers.{all_free, taken, given_back}
 
 -- a register's number read as a temporary or a local
@@ -12,8 +12,8 @@ found kind (Ok r) = Ok (kind r)
 found kind (Err refusal) = Err refusal
 
 -- `allocate_temp`, `allocate_local`
-unfoldable pub allocated : (ℕ → Register) → RegisterSet → Allocated
-allocated kind s = record { set = (taken s).set; register = found kind (taken s).place }
+unfoldable pub allocated : (ℕ → Register) → RegisterSet → Taken Register
+allocated kind s = record { set = (taken s).set; register = found kind (taken s).register }
 
 -- `free_temp`: a temporary is given back, a local is not
 unfoldable pub freed : RegisterSet → Register → RegisterSet

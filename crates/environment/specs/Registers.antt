@@ -53,11 +53,11 @@ unfoldable pub without : RegisterSet → ℕ → RegisterSet
 without s r = record { words = take_out s.words r; frame_size = max s.frame_size (r + 1) }
 
 -- "the smallest free register is taken"; "10: Is a register free?"
-unfoldable pub taken : RegisterSet → Taken
+unfoldable pub taken : RegisterSet → Taken ℕ
 taken s =
     cond (ltb (smallest_free s.words) register_count)
-    (record { set = without s (smallest_free s.words); place = Ok (smallest_free s.words) })
-    (record { set = s; place = Err Refusal.Registers })
+    (record { set = without s (smallest_free s.words); register = Ok (smallest_free s.words) })
+    (record { set = s; register = Err Refusal.Registers })
 
 -- register r given back: it is free if it was held, and the frame size stays. If it was free it is held afterwards, so that a second give-back shows. A number
 -- past 255 changes nothing.

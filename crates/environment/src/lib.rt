@@ -32,18 +32,11 @@ pub struct RegisterSet {
     pub frame_size: u32,
 }
 
-// The set afterwards, and the register's number or why there is none.
+// The set afterwards, and the register, as a number or as a `Register`, or why there is none.
 #[derive(Drop)]
-pub struct Taken {
+pub struct Taken<T> {
     pub set: RegisterSet,
-    pub place: Result<u32, Refusal>,
-}
-
-// The set afterwards, and the register or why there is none.
-#[derive(Drop)]
-pub struct Allocated {
-    pub set: RegisterSet,
-    pub register: Result<Register, Refusal>,
+    pub register: Result<T, Refusal>,
 }
 
 // The bit of register r in word i of a set, or 0 where the register is in another word.
@@ -128,13 +121,13 @@ impl RegisterSet {
     }
 
     // Takes the smallest free register.
-    pub fn take(self) -> Taken
+    pub fn take(self) -> Taken<u32>
         ensures { result ≡ taken self }
     {
         let Some(r) = self.smallest_free() else {
             return Taken {
                 set: self,
-                place: Err(Refusal::Registers),
+                register: Err(Refusal::Registers),
             };
         };
         let flipped = self.flipped(r);
@@ -142,7 +135,7 @@ impl RegisterSet {
         let frame_size = self.frame_size.max(r + 1);
         Taken {
             set: RegisterSet { words, frame_size },
-            place: Ok(r),
+            register: Ok(r),
         }
     }
 
@@ -168,25 +161,27 @@ impl RegisterSet {
         }
     }
 
+    // `allocate_temp` differs in the constructor alone. One function of both would get it as a closure, with a `requires` and an `ensures` by cases: more than these lines.
     #[tactic(auto, unfolding(crate::specs::Environment::allocated, crate::specs::Environment::found))]
-    pub fn allocate_local(self) -> Allocated
+    pub fn allocate_local(self) -> Taken<Register>
         ensures { result ≡ allocated Register.Local self }
     {
-        let Taken { set, place } = self.take();
-        Allocated {
+        let Taken { set, register } = self.take();
+        Taken {
             set,
-            register: place.map(Register::Local),
+            register: register.map(Register::Local),
         }
     }
 
+    // As `allocate_local`, with the other constructor.
     #[tactic(auto, unfolding(crate::specs::Environment::allocated, crate::specs::Environment::found))]
-    pub fn allocate_temp(self) -> Allocated
+    pub fn allocate_temp(self) -> Taken<Register>
         ensures { result ≡ allocated Register.Temp self }
     {
-        let Taken { set, place } = self.take();
-        Allocated {
+        let Taken { set, register } = self.take();
+        Taken {
             set,
-            register: place.map(Register::Temp),
+            register: register.map(Register::Temp),
         }
     }
 

@@ -19,7 +19,7 @@ use Rattle.environment.specs.declared.Register.{Register}
 use Rattle.environment.specs.declared.Taken.{Taken}
 use Rattle.environment.specs.Registers.{taken}
 use Rattle.environment.specs.Environment.{found, allocated}
-use Rattle.environment.proofs.Laws.{place_takes, take_refused}
+use Rattle.environment.proofs.Laws.{register_takes, take_refused}
 use Rattle.runtime.specs.declared.instruction.Instruction.{Instruction}
 use Rattle.runtime.specs.declared.operand.Operand.{Operand}
 use Rattle.runtime.specs.Instruction.{words_of}
@@ -169,24 +169,24 @@ stored_place constants count c {n = n} left h = low (store_at constants count c 
     low stored = elim stored.grows [ inl l ↦ omega (arith, l.0) | inr e ↦ omega (arith, e.0) ]
 
 -- a temporary taken, by what the program has of it: its number, or `none` where no register is free
-module _ (m : Made) {after : Taken} {w : ℕ} (took : after ≡ taken m.state.registers) (number : w ≡ number_at after.place) where
-  place : (taken m.state.registers).place ≡ after.place
-  place = sym (ap (λ x. x.place) took)
+module _ (m : Made) {after : Taken ℕ} {w : ℕ} (took : after ≡ taken m.state.registers) (number : w ≡ number_at after.register) where
+  same : (taken m.state.registers).register ≡ after.register
+  same = sym (ap (λ x. x.register) took)
 
   pub some_allocated : w ≢ none → allocate_temp m ≡ ends (register_at w) (with_registers after.set m)
   unfolding allocate_temp allocated found registered number_at
-  some_allocated h = rw (← took, number) (go after.place place (rw number at h))
+  some_allocated h = rw (← took, number) (go after.register same (rw number at h))
     where
-      go : (p : Result ℕ Refusal) → (taken m.state.registers).place ≡ p → number_at p ≢ none →
+      go : (p : Result ℕ Refusal) → (taken m.state.registers).register ≡ p → number_at p ≢ none →
           registered (found Register.Temp p) (with_registers after.set m) ≡ ends (register_at (number_at p)) (with_registers after.set m)
-      go (Ok r) e h = rw (register_at_temporary r (place_takes m.state.registers r e).in_range)
+      go (Ok r) e h = rw (register_at_temporary r (register_takes m.state.registers r e).in_range)
       go (Err refusal) e h = absurd (h refl)
 
   pub none_allocated : (t : Tree) → w ≡ none → settled (allocate_temp m) ≡ seen t register_at m (refusal_at Refusal.Registers 0)
   unfolding allocate_temp allocated found registered number_at settled error_at names_node
-  none_allocated t h = rw (← took) (go after.place place (sym number ∙ h)) ∙ sym (seen_refusal t register_at m Refusal.Registers 0 (omega arith))
+  none_allocated t h = rw (← took) (go after.register same (sym number ∙ h)) ∙ sym (seen_refusal t register_at m Refusal.Registers 0 (omega arith))
     where
-      go : (p : Result ℕ Refusal) → (taken m.state.registers).place ≡ p → number_at p ≡ none →
+      go : (p : Result ℕ Refusal) → (taken m.state.registers).register ≡ p → number_at p ≡ none →
           settled (registered (found Register.Temp p) (with_registers after.set m)) ≡ stops (unnamed Refusal.Registers) (settle m)
-      go (Ok r) e h = absurd (omega (arith, (place_takes m.state.registers r e).in_range))
+      go (Ok r) e h = absurd (omega (arith, (register_takes m.state.registers r e).in_range))
       go (Err refusal) e h = rw (take_refused m.state.registers refusal e).reason

@@ -14,7 +14,7 @@ use Rattle.environment.specs.declared.RegisterSet.{RegisterSet}
 use Rattle.environment.specs.declared.Taken.{Taken}
 use Rattle.environment.specs.Registers.{taken, given_back}
 use Rattle.environment.specs.Environment.{freed}
-use Rattle.environment.proofs.Laws.{place_takes}
+use Rattle.environment.proofs.Laws.{register_takes}
 use Rattle.syntax.specs.declared.ast.Node.{Node}
 use Rattle.runtime.specs.Operands.{reg_of}
 use Rattle.lowering.specs.Literals.{literal}
@@ -37,21 +37,21 @@ register_at_local i h =
     rw (register_at_past (256 + i % 256) (omega arith), e)
 
 -- a register that was taken, by its number: `none`, or below 256
-module _ (s : RegisterSet) {after : Taken} {w : ℕ} (took : after ≡ taken s) (number : w ≡ number_at after.place) where
+module _ (s : RegisterSet) {after : Taken ℕ} {w : ℕ} (took : after ≡ taken s) (number : w ≡ number_at after.register) where
   pub taken_number : (w ≡ none) ⊎ (w < 256)
   unfolding number_at
-  taken_number = rw number (go after.place (sym (ap (λ x. x.place) took)))
+  taken_number = rw number (go after.register (sym (ap (λ x. x.register) took)))
     where
-      go : (p : Result ℕ Refusal) → (taken s).place ≡ p → (number_at p ≡ none) ⊎ (number_at p < 256)
-      go (Ok r) e = inr (place_takes s r e).in_range
+      go : (p : Result ℕ Refusal) → (taken s).register ≡ p → (number_at p ≡ none) ⊎ (number_at p < 256)
+      go (Ok r) e = inr (register_takes s r e).in_range
       go (Err refusal) e = inl refl
 
 -- where there is one
-module _ (s : RegisterSet) {after : Taken} {r : ℕ} (took : after ≡ taken s) (e : after.place ≡ Ok r) where
+module _ (s : RegisterSet) {after : Taken ℕ} {r : ℕ} (took : after ≡ taken s) (e : after.register ≡ Ok r) where
   pub taken_below : r < 256
-  taken_below = (place_takes s r (sym (ap (λ x. x.place) took) ∙ e)).in_range
+  taken_below = (register_takes s r (sym (ap (λ x. x.register) took) ∙ e)).in_range
 
-  pub taken_number_at : r ≡ number_at after.place
+  pub taken_number_at : r ≡ number_at after.register
   unfolding number_at
   taken_number_at = rw e
 

@@ -30,7 +30,7 @@ pub fn destination(state: State, dest: Option<u32>) -> AnswerAndState
     }
     let mut s = state;
     let taken = s.registers.take();
-    let Ok(register) = taken.place else {
+    let Ok(register) = taken.register else {
         return refused(s, Refusal::Registers, 0);
     };
     s.registers = taken.set;

@@ -11,11 +11,11 @@ unfolding destination settled
 returns-in-Some-clause-step c t k p m =
     rw (c.answered.ensures.state, c.answered.ensures.answer, c.in-Some.is) (sym (seen_word t register_at _ _ (omega arith)))
 
-pub returns-in_default-place-clause-step : goal.returns-in_default-place-clause-step
+pub returns-in_default-register-clause-step : goal.returns-in_default-register-clause-step
 unfolding destination
-returns-in_default-place-clause-step c t k p m =
+returns-in_default-register-clause-step c t k p m =
     rw (c.refused.ensures.state, c.refused.ensures.answer, c.in_default.is)
-    (none_allocated _ c.take-taken.ensures (no_number c.in_default-place.is) t refl)
+    (none_allocated _ c.take-taken.ensures (no_number c.in_default-register.is) t refl)
 
 pub returns-clause-step : goal.returns-clause-step
 unfolding destination settled
