@@ -298,7 +298,7 @@ pub fn has_destination(kind: u32) -> bool
 }
 
 // Which word of a jump is its offset; 0, the kind's own word, for a kind that is no jump. The kind is, here too, a word of any buffer,
-// and no `Opcode` is read back of it.
+// and no `Opcode` is read back of it. No `Option`: `put_offset` and its definition write for any kind, so each would say `unwrap_or(0)`.
 #[tactic(auto, unfolding(crate::specs::Instruction::offset_word))]
 pub fn offset_word(kind: u32) -> usize
     ensures { result ≡ offset_word kind }
