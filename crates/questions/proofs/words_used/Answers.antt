@@ -1,7 +1,0 @@
--- `questions::words_used` meets its contract: each arm answers what the table has at its place. Assumes nothing.
-use Rattle.lowering.specs.Questions.{question4}
-use Rattle.questions.proofs.words_used.Goals as goal
-
-pub returns-in-Boolean : goal.returns-in-Boolean
-unfolding question4
-returns-in-Boolean c = rw c.in-Boolean.is
