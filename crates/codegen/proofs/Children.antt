@@ -26,9 +26,9 @@ pub child_in : (nodes : List ℕ) (i n : ℕ) → InArena nodes i → n < i → 
 child_in nodes i n inside below = omega arith
 
 -- to walk it, by a measure that falls: that of node i or more
-pub walk_in : (nodes : List ℕ) {i t : ℕ} (n : ℕ) (dest : Option ℕ) (a : ℕ) → InArena nodes i → n < i → 8 * i ≤ t → Aimed dest → (is_inner a ≡ true → value_of a ≤ n) →
-    (cond (is_inner a) (8 * value_of a + 3) 0 < t) × (is_inner a ≡ true → InArena nodes (value_of a) × Aimed dest)
-walk_in nodes {i} {t} n dest a inside below at few same = (go (is_inner a) refl, λ h. (omega (arith, same h, inside), few))
+pub walk_in : {i t : ℕ} (n : ℕ) (dest : Option ℕ) (a : ℕ) → n < i → 8 * i ≤ t → Aimed dest → (is_inner a ≡ true → value_of a ≤ n) →
+    (cond (is_inner a) (8 * value_of a + 3) 0 < t) × (is_inner a ≡ true → (value_of a ≤ n) × Aimed dest)
+walk_in {i} {t} n dest a below at few same = (go (is_inner a) refl, λ h. (same h, few))
   where
     go : (b : Bool) → is_inner a ≡ b → cond b (8 * value_of a + 3) 0 < t
     go true h = omega (arith, same h)

@@ -298,23 +298,22 @@ module _ (nodes : List ℕ) (left right : ℕ) (leaves : are_leaves nodes left r
 
 -- ---- an operator by the words of its node
 
-module _ (t : Tree) (i : ℕ) (operator : BinaryOp) (left right : ℕ) (kind : node_word t.nodes i 0 ≡ binary_kind) (at_operator : operator ≡ binary_op (node_word t.nodes i 1))
-    (at_left : left ≡ node_word t.nodes i 2) (at_right : right ≡ node_word t.nodes i 3) (m : Made) where
+module _ (t : Tree) (i : ℕ) (operator : BinaryOp) (kind : node_word t.nodes i 0 ≡ binary_kind) (at_operator : operator ≡ binary_op (node_word t.nodes i 1)) (m : Made) where
   -- "destination first, left, right", where the destination is given
   pub binary_of : Checked t → (d : Register) {r : Outcome Operand} →
-      settled (bind (lower_expression free_temp t left None m) (λ a n. bind (lower_expression free_temp t right None n)
-      (λ b. binary_sources free_temp t (lower_expression free_temp t) operator left right d (source a) (source b)))) ≡ r →
+      settled (bind (lower_expression free_temp t (node_word t.nodes i 2) None m) (λ a n. bind (lower_expression free_temp t (node_word t.nodes i 3) None n)
+      (λ b. binary_sources free_temp t (lower_expression free_temp t) operator (node_word t.nodes i 2) (node_word t.nodes i 3) d (source a) (source b)))) ≡ r →
       settled (lower_expression free_temp t i (Some d) m) ≡ r
   unfolding destination bind
-  binary_of checked d q = operator_of checked i kind at_left at_right (Some d) m (rw at_operator at q)
+  binary_of checked d q = operator_of checked i kind refl refl (Some d) m (rw at_operator at q)
 
   -- a comparison as a condition: "left, right, constants pooled, one fused jump"
   pub compared_of : (E : ℕ → Option Register → Walk Operand) (sense : Bool) (own : Option Register → Walk Operand) (op : Comparison) {r : Outcome ℕ} →
       comparison operator ≡ Some op →
-      settled (bind (E left None m) (λ a n. bind (E right None n) (λ b. fused_sources t E sense own op (source a) (source b)))) ≡ r →
+      settled (bind (E (node_word t.nodes i 2) None m) (λ a n. bind (E (node_word t.nodes i 3) None n) (λ b. fused_sources t E sense own op (source a) (source b)))) ≡ r →
       settled (jump_node t E sense own (node t i) m) ≡ r
   unfolding jump_node fuse
-  compared_of E sense own op compares q = rw (node_kind t i binary_kind kind, ← at_operator, compares, ← at_left, ← at_right) q
+  compared_of E sense own op compares q = rw (node_kind t i binary_kind kind, ← at_operator, compares) q
 
 -- ---- whether a node is flat
 

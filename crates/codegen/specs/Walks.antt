@@ -1,17 +1,36 @@
 -- The tree and the buffers that are lent to the walk, and what a function of the walk does with them.
-use Rattle.std.specs.Prelude.{ℕ, ◌≡◌, ◌≢◌, length, Option, Some}
+use Rattle.std.specs.Prelude.{ℕ, Bool, ◌≡◌, ◌≢◌, length, Option, Some}
 use Rattle.words.specs.Words.{words}
+use Rattle.syntax.specs.declared.ast.Node.{Node}
+use Rattle.syntax.specs.Ast.{node_at}
 use Rattle.lowering.specs.declared.State.{State}
-use Rattle.lowering.specs.Tree.{Tree}
+use Rattle.lowering.specs.Tree.{Tree, tree_of}
 use Rattle.lowering.specs.Walk.{Walk, Made, made}
 use Rattle.steps.specs.declared.answer.AnswerAndState.{AnswerAndState}
 use Rattle.steps.specs.Answers.{literal_word}
 use Rattle.environment.specs.Environment.{lookup}
 use Rattle.codegen.specs.Ready.{Lowers, node_word_of}
 use Rattle.codegen.specs.Kinds.{name_kind}
-use Rattle.codegen.specs.Flat.{found_at, LocalOr}
+use Rattle.codegen.specs.Flat.{are_leaves, found_at, LocalOr}
 use Rattle.codegen.specs.declared.arena.Arena.{Arena}
+use Rattle.codegen.specs.declared.arena.NodeRef.{NodeRef}
 use Rattle.codegen.specs.declared.arena.Buffers.{Buffers}
+
+-- the tree that is lent
+abbrev pub tree : Arena → Tree
+tree a = tree_of a.nodes.now a.list.now a.names.now
+
+-- word k of a node
+abbrev pub word_at : NodeRef → ℕ → ℕ
+word_at n k = node_word_of n.arena.now.nodes.now n.index k
+
+-- what a node is in its tree
+abbrev pub tree_node : NodeRef → Node
+tree_node n = node_at (words n.arena.now.nodes.now) n.index
+
+-- the operands of an operator are literals or names, and not both literals
+abbrev pub has_leaves : NodeRef → Bool
+has_leaves n = are_leaves n.arena.now.nodes.now (word_at n 2) (word_at n 3)
 
 -- what was made so far: the words of the three buffers, and the state
 abbrev pub made_of : Buffers → State → Made

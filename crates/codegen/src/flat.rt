@@ -18,13 +18,13 @@ ghost use Rattle.lowering.specs.Literals.{literal};
 ghost use Rattle.lowering.specs.Steps.{free_temp, load_constant};
 ghost use Rattle.lowering.specs.Lower.{binary_sources, fused_sources, name_of, lower_entry, jump_node, lower_expression, lower_materializing};
 ghost use Rattle.steps.specs.Answers.{register_at, dest_of, Aimed, any, literal_word, operand_at, source_at, place_at, settled, seen, state_of, is_inner, value_of, word_end, DestOrRefusal, WordOrRefusal};
-ghost use Rattle.codegen.specs.Walks.{Kept, made_of, Untouched, NothingDone, LeafWord};
+ghost use Rattle.codegen.specs.Walks.{tree, word_at, tree_node, has_leaves, Kept, made_of, Untouched, NothingDone, LeafWord};
 ghost use Rattle.codegen.specs.Ready.{InArena, node_word_of};
 ghost use Rattle.codegen.specs.Kinds.{name_kind, binary_kind, key_operand, set_opcode};
 ghost use Rattle.codegen.specs.declared.flat.Asked.{Asked};
-ghost use Rattle.codegen.specs.Flat.{Given, are_leaves, is_flat, found_at, LocalOr, needing, flat_node};
+ghost use Rattle.codegen.specs.Flat.{Given, is_flat, found_at, LocalOr, needing, flat_node};
 
-use crate::arena::{Arena, Buffers};
+use crate::arena::{Buffers, NodeRef};
 use diagnostics::Refusal;
 use lowering::State;
 use operators::{is_comparison, jump_if};
@@ -48,62 +48,67 @@ pub(crate) enum Asked {
     Into,
 }
 
-impl Arena<'_> {
-    // The node that a block comes to, where the destination is given: its tail's tail, and so on. A `while`: it follows the tails, and counts nothing.
-    fn tail_of(&self, node: u32) -> u32
-        requires { InArena self.now.nodes.now node }
-        ensures inside { InArena self.now.nodes.now result × (result ≤ node) }
-        ensures same { (list names : List ℕ) (d : Register) (m : Made) → Checked (tree_of self.now.nodes.now list names) →
-            lower_materializing (lower_expression free_temp (tree_of self.now.nodes.now list names) node) (Some d) m
-            ≡ lower_materializing (lower_expression free_temp (tree_of self.now.nodes.now list names) result) (Some d) m }
+impl NodeRef<'_> {
+    // The node that a block comes to, where the destination is given: its tail's tail, and so on. A `loop`: it follows the tails, and counts nothing.
+    fn tail_of(self) -> u32
+        ensures inside { result ≤ self.entry.index }
+        ensures same { (list names : List ℕ) (d : Register) (m : Made) → Checked (tree_of self.entry.arena.now.nodes.now list names) →
+            lower_materializing (lower_expression free_temp (tree_of self.entry.arena.now.nodes.now list names) self.entry.index) (Some d) m
+            ≡ lower_materializing (lower_expression free_temp (tree_of self.entry.arena.now.nodes.now list names) result) (Some d) m }
     {
-        let mut n = node;
-        while self.kind(n) == Kind::Block {
-            let Some(tail) = node_of(self.node_word(n, 1)) else {
+        let mut n = self.index;
+        loop {
+            let node = NodeRef {
+                arena: self.arena,
+                index: n,
+            };
+            if node.kind() != Kind::Block {
+                return n;
+            }
+            let Some(tail) = node_of(node.word(1)) else {
                 return n;
             };
             n = tail;
         }
-        n
     }
 
     // A leaf with no destination: LITERAL, or the register of a name, if it is declared.
-    fn leaf_operand(&self, node: u32) -> Option<u32>
-        requires { InArena self.now.nodes.now node }
-        ensures name { node_word_of self.now.nodes.now node 0 ≡ name_kind →
-            (found_at result ≡ lookup (words self.now.names.now) (length (words self.now.names.now)) (node_word_of self.now.nodes.now node 1)) × LocalOr result }
-        ensures literal { node_word_of self.now.nodes.now node 0 ≢ name_kind → result ≡ Some literal_word }
+    fn leaf_operand(self) -> Option<u32>
+        ensures name { word_at self.entry 0 ≡ name_kind →
+            (found_at result ≡ lookup (words self.entry.arena.now.names.now) (length (words self.entry.arena.now.names.now)) (word_at self.entry 1)) × LocalOr result }
+        ensures literal { word_at self.entry 0 ≢ name_kind → result ≡ Some literal_word }
     {
-        if self.kind(node) == Kind::Identifier {
-            return self.find(self.node_word(node, 1));
+        if self.kind() == Kind::Identifier {
+            return self.arena.find(self.word(1));
         }
         Some(LITERAL)
     }
 
-    // The operands of two leaves; or the leaf whose name is not declared, the left one first.
-    fn leaf_operands(&self, left: u32, right: u32) -> Result<(u32, u32), u32>
-        requires { InArena self.now.nodes.now left × InArena self.now.nodes.now right }
-        ensures operands { (v w : ℕ) → result ≡ Ok (v, w) → LeafWord self.now left (Some v) × LeafWord self.now right (Some w) }
-        ensures undeclared { (leaf : ℕ) → result ≡ Err leaf → ((leaf ≡ left) × LeafWord self.now left None)
-            ⊎ ((leaf ≡ right) × (((v : ℕ) × LeafWord self.now left (Some v)) × LeafWord self.now right None)) }
+    // The operands of an operator on two leaves; or the leaf whose name is not declared, the left one first.
+    fn leaf_operands(self) -> Result<(u32, u32), u32>
+        requires { word_at self 0 ≡ binary_kind }
+        ensures operands { (v w : ℕ) → result ≡ Ok (v, w) → LeafWord self.entry.arena.now (word_at self.entry 2) (Some v) × LeafWord self.entry.arena.now (word_at self.entry 3) (Some w) }
+        ensures undeclared { (leaf : ℕ) → result ≡ Err leaf → ((leaf ≡ word_at self.entry 2) × LeafWord self.entry.arena.now (word_at self.entry 2) None)
+            ⊎ ((leaf ≡ word_at self.entry 3) × (((v : ℕ) × LeafWord self.entry.arena.now (word_at self.entry 2) (Some v)) × LeafWord self.entry.arena.now (word_at self.entry 3) None)) }
     {
-        let src1 = self.leaf_operand(left).ok_or(left)?;
-        let src2 = self.leaf_operand(right).ok_or(right)?;
+        let left = NodeRef {
+            arena: self.arena,
+            index: self.word(2),
+        };
+        let right = NodeRef {
+            arena: self.arena,
+            index: self.word(3),
+        };
+        let src1 = left.leaf_operand().ok_or(left.index)?;
+        let src2 = right.leaf_operand().ok_or(right.index)?;
         Ok((src1, src2))
     }
 
     // A literal in d, if there is a register: pool, LoadConst.
     #[tactic(auto, using(steps::proofs::Words::refusal_start_lem))]
-    fn literal_into(
-        &self,
-        buffers: &mut Buffers,
-        counts: Counts,
-        node: u32,
-        d: u32,
-    ) -> AnswerAndCounts
-        requires { InArena self.now.nodes.now node }
+    fn literal_into(self, buffers: &mut Buffers, counts: Counts, d: u32) -> AnswerAndCounts
         ensures step { (t : Tree) (rs : RegisterSet) (n : ℕ) →
-            settled (needing d (load_constant (literal (node_at (words self.now.nodes.now) node)) (Some (register_at d)))
+            settled (needing d (load_constant (literal (tree_node self.entry)) (Some (register_at d)))
             (made_of buffers.old (state_of rs counts n)))
             ≡ seen t register_at (made_of buffers.new (state_of rs result.counts n)) result.answer }
         ensures word { DestOrRefusal d result.answer }
@@ -112,34 +117,27 @@ impl Arena<'_> {
         if d == NONE {
             return counts.refused(Refusal::Registers, 0);
         }
-        constant_into(
-            buffers.code,
-            buffers.constants,
-            counts,
-            self.literal(node),
-            d,
-        )
+        constant_into(buffers.code, buffers.constants, counts, self.literal(), d)
     }
 
     // A name: its own register, or a Move if another one is given.
     #[tactic(auto, using(steps::proofs::Words::refusal_start_lem))]
     pub(crate) fn name_into(
-        &self,
+        self,
         buffers: &mut Buffers,
         counts: Counts,
-        node: u32,
         dest: Option<u32>,
     ) -> AnswerAndCounts
-        requires { InArena self.now.nodes.now node × ((node_word_of self.now.nodes.now node 0 ≡ name_kind) × Aimed dest) }
+        requires { (word_at self 0 ≡ name_kind) × Aimed dest }
         ensures step { (list : List ℕ) (rs : RegisterSet) (n : ℕ) →
-            settled (lower_expression free_temp (tree_of self.now.nodes.now list self.now.names.now) node (dest_of dest)
+            settled (lower_expression free_temp (tree_of self.entry.arena.now.nodes.now list self.entry.arena.now.names.now) self.entry.index (dest_of dest)
             (made_of buffers.old (state_of rs counts n)))
-            ≡ seen (tree_of self.now.nodes.now list self.now.names.now) (operand_at (node_at (words self.now.nodes.now) node)) (made_of buffers.new (state_of rs result.counts n)) result.answer }
+            ≡ seen (tree_of self.entry.arena.now.nodes.now list self.entry.arena.now.names.now) (operand_at (tree_node self.entry)) (made_of buffers.new (state_of rs result.counts n)) result.answer }
         ensures word { WordOrRefusal result.answer }
         ensures kept { Kept buffers.old buffers.new }
     {
-        let Some(register) = self.find(self.node_word(node, 1)) else {
-            return counts.refused(Refusal::Undeclared, node);
+        let Some(register) = self.arena.find(self.word(1)) else {
+            return counts.refused(Refusal::Undeclared, self.index);
         };
         let Some(d) = dest else {
             return counts.answered(register);
@@ -161,46 +159,46 @@ impl Arena<'_> {
         e.counts.answered(d)
     }
 
-    // Whether two nodes are literals or names, and not both literals.
+    // Whether the operands of an operator are literals or names, and not both literals.
     #[tactic(auto, unfolding(crate::specs::Flat::are_leaves))]
-    fn are_leaves(&self, left: u32, right: u32) -> bool
-        requires { InArena self.now.nodes.now left × InArena self.now.nodes.now right }
-        ensures { result ≡ are_leaves self.now.nodes.now left right }
+    fn has_leaves(self) -> bool
+        requires { word_at self 0 ≡ binary_kind }
+        ensures { result ≡ has_leaves self.entry }
     {
-        let a = self.kind(left);
-        let b = self.kind(right);
+        let left = NodeRef {
+            arena: self.arena,
+            index: self.word(2),
+        };
+        let right = NodeRef {
+            arena: self.arena,
+            index: self.word(3),
+        };
+        let a = left.kind();
+        let b = right.kind();
         a.is_leaf() & b.is_leaf() & ((a == Kind::Identifier) | (b == Kind::Identifier))
     }
 
     // An operator on two leaves, with its value in d, if there is a register.
     #[tactic(auto, using(steps::proofs::Words::refusal_start_lem))]
-    fn binary_into(
-        &self,
-        buffers: &mut Buffers,
-        counts: Counts,
-        node: u32,
-        d: u32,
-    ) -> AnswerAndCounts
-        requires { InArena self.now.nodes.now node × ((node_word_of self.now.nodes.now node 0 ≡ binary_kind) × Given d) }
-        ensures step { (rs : RegisterSet) (n : ℕ) → are_leaves self.now.nodes.now (node_word_of self.now.nodes.now node 2) (node_word_of self.now.nodes.now node 3) ≡ true →
-            settled (needing d (lower_expression free_temp (tree_of self.now.nodes.now self.now.list.now self.now.names.now) node (Some (register_at d))) (made_of buffers.old (state_of rs counts n)))
-            ≡ seen (tree_of self.now.nodes.now self.now.list.now self.now.names.now) (operand_at (node_at (words self.now.nodes.now) node)) (made_of buffers.new (state_of rs result.counts n)) result.answer }
-        ensures inner { are_leaves self.now.nodes.now (node_word_of self.now.nodes.now node 2) (node_word_of self.now.nodes.now node 3) ≡ false →
-            (result ≡ record { counts = counts; answer = word_end + node }) × Untouched buffers.old buffers.new }
-        ensures word { are_leaves self.now.nodes.now (node_word_of self.now.nodes.now node 2) (node_word_of self.now.nodes.now node 3) ≡ true → DestOrRefusal d result.answer }
+    fn binary_into(self, buffers: &mut Buffers, counts: Counts, d: u32) -> AnswerAndCounts
+        requires { (word_at self 0 ≡ binary_kind) × Given d }
+        ensures step { (rs : RegisterSet) (n : ℕ) → has_leaves self.entry ≡ true →
+            settled (needing d (lower_expression free_temp (tree self.entry.arena.now) self.entry.index (Some (register_at d))) (made_of buffers.old (state_of rs counts n)))
+            ≡ seen (tree self.entry.arena.now) (operand_at (tree_node self.entry)) (made_of buffers.new (state_of rs result.counts n)) result.answer }
+        ensures inner { has_leaves self.entry ≡ false →
+            (result ≡ record { counts = counts; answer = word_end + self.entry.index }) × Untouched buffers.old buffers.new }
+        ensures word { has_leaves self.entry ≡ true → DestOrRefusal d result.answer }
         ensures kept { Kept buffers.old buffers.new }
     {
-        let left = self.node_word(node, 2);
-        let right = self.node_word(node, 3);
-        if !self.are_leaves(left, right) {
-            return counts.left(node);
+        if !self.has_leaves() {
+            return counts.left(self.index);
         }
         if d == NONE {
             return counts.refused(Refusal::Registers, 0);
         }
-        let operator = BinaryOp::of(self.node_word(node, 1));
-        match self.leaf_operands(left, right) {
-            Ok((src1, src2)) => self.binary_operation(buffers, counts, node, d, src1, src2),
+        let operator = BinaryOp::of(self.word(1));
+        match self.leaf_operands() {
+            Ok((src1, src2)) => self.binary_operation(buffers, counts, d, src1, src2),
             Err(leaf) => counts.refused(Refusal::Undeclared, leaf),
         }
     }
@@ -208,74 +206,66 @@ impl Arena<'_> {
     // A flat node, with its value in d if it needs a register. For any other node it is left to the walk, and nothing is done.
     #[tactic(auto, using(crate::proofs::FlatNodes::flat_leaf, crate::proofs::FlatNodes::flat_binary, crate::proofs::FlatNodes::flat_other, crate::proofs::FlatNodes::answer_word))]
     fn lower_flat(
-        &self,
+        self,
         buffers: &mut Buffers,
         counts: Counts,
-        node: u32,
         asked: Asked,
         d: u32,
     ) -> AnswerAndCounts
-        requires { InArena self.now.nodes.now node × (Given d × (asked ≡ Asked.Into → d < any)) }
-        ensures step { (rs : RegisterSet) (n : ℕ) → is_flat self.now.nodes.now node ≡ true →
-            settled (flat_node (tree_of self.now.nodes.now self.now.list.now self.now.names.now) asked d node (made_of buffers.old (state_of rs counts n)))
-            ≡ seen (tree_of self.now.nodes.now self.now.list.now self.now.names.now) (operand_at (node_at (words self.now.nodes.now) node)) (made_of buffers.new (state_of rs result.counts n)) result.answer }
-        ensures inner { is_flat self.now.nodes.now node ≡ false →
-            (result ≡ record { counts = counts; answer = word_end + node }) × Untouched buffers.old buffers.new }
-        ensures word { is_flat self.now.nodes.now node ≡ true → WordOrRefusal result.answer }
+        requires { Given d × (asked ≡ Asked.Into → d < any) }
+        ensures step { (rs : RegisterSet) (n : ℕ) → is_flat self.entry.arena.now.nodes.now self.entry.index ≡ true →
+            settled (flat_node (tree self.entry.arena.now) asked d self.entry.index (made_of buffers.old (state_of rs counts n)))
+            ≡ seen (tree self.entry.arena.now) (operand_at (tree_node self.entry)) (made_of buffers.new (state_of rs result.counts n)) result.answer }
+        ensures inner { is_flat self.entry.arena.now.nodes.now self.entry.index ≡ false →
+            (result ≡ record { counts = counts; answer = word_end + self.entry.index }) × Untouched buffers.old buffers.new }
+        ensures word { is_flat self.entry.arena.now.nodes.now self.entry.index ≡ true → WordOrRefusal result.answer }
         ensures kept { Kept buffers.old buffers.new }
     {
-        let kind = self.kind(node);
+        let kind = self.kind();
         if kind.is_literal() {
             if asked == Asked::Operand {
                 return counts.answered(LITERAL);
             }
-            return self.literal_into(buffers, counts, node, d);
+            return self.literal_into(buffers, counts, d);
         }
         if kind == Kind::Identifier {
             let dest = if asked == Asked::Into { Some(d) } else { None };
-            return self.name_into(buffers, counts, node, dest);
+            return self.name_into(buffers, counts, dest);
         }
         if kind != Kind::Binary {
-            return counts.left(node);
+            return counts.left(self.index);
         }
-        self.binary_into(buffers, counts, node, d)
+        self.binary_into(buffers, counts, d)
     }
 
     // Whether a node may be flat: a quick no for most.
-    fn is_simple(&self, node: u32) -> bool
-        requires { InArena self.now.nodes.now node }
-        ensures { result ≡ leb (node_word_of self.now.nodes.now node 0) binary_kind }
+    fn is_simple(self) -> bool
+        ensures { result ≡ leb (word_at self.entry 0) binary_kind }
     {
-        self.kind(node) <= Kind::Binary
+        self.kind() <= Kind::Binary
     }
 
     // A flat child with no destination: its operand, or its value in a register, which is taken if it needs one. Any other child is left to the walk, and
     // nothing is done.
-    pub(crate) fn peek(
-        &self,
-        buffers: &mut Buffers,
-        state: State,
-        node: u32,
-        asked: Asked,
-    ) -> AnswerAndState
-        requires { InArena self.now.nodes.now node × (asked ≢ Asked.Into) }
+    pub(crate) fn peek(self, buffers: &mut Buffers, state: State, asked: Asked) -> AnswerAndState
+        requires { asked ≢ Asked.Into }
         ensures operand { is_inner result.answer ≡ false → asked ≡ Asked.Operand →
-            settled (lower_expression free_temp (tree_of self.now.nodes.now self.now.list.now self.now.names.now) node None (made_of buffers.old state))
-            ≡ seen (tree_of self.now.nodes.now self.now.list.now self.now.names.now) (operand_at (node_at (words self.now.nodes.now) node)) (made_of buffers.new result.state) result.answer }
+            settled (lower_expression free_temp (tree self.entry.arena.now) self.entry.index None (made_of buffers.old state))
+            ≡ seen (tree self.entry.arena.now) (operand_at (tree_node self.entry)) (made_of buffers.new result.state) result.answer }
         ensures register { is_inner result.answer ≡ false → asked ≡ Asked.Register →
-            settled (lower_materializing (lower_expression free_temp (tree_of self.now.nodes.now self.now.list.now self.now.names.now) node) None (made_of buffers.old state))
-            ≡ seen (tree_of self.now.nodes.now self.now.list.now self.now.names.now) register_at (made_of buffers.new result.state) result.answer }
-        ensures inner { is_inner result.answer ≡ true → NothingDone buffers.old buffers.new state result × ((value_of result.answer ≡ node) × (binary_kind ≤ node_word_of self.now.nodes.now node 0)) }
+            settled (lower_materializing (lower_expression free_temp (tree self.entry.arena.now) self.entry.index) None (made_of buffers.old state))
+            ≡ seen (tree self.entry.arena.now) register_at (made_of buffers.new result.state) result.answer }
+        ensures inner { is_inner result.answer ≡ true → NothingDone buffers.old buffers.new state result × ((value_of result.answer ≡ self.entry.index) × (binary_kind ≤ word_at self.entry 0)) }
         ensures kept { Kept buffers.old buffers.new }
     {
         let mut s = state;
-        if self.is_simple(node) {
+        if self.is_simple() {
             let registers = s.registers;
             let taken = registers.take();
             let set = taken.set;
             // NONE where no register is free. As an Option it was slower: the flat nodes then took a few per cent more time.
             let register = number_at(taken.register);
-            let f = self.lower_flat(buffers, Counts::of(s), node, asked, register);
+            let f = self.lower_flat(buffers, Counts::of(s), asked, register);
             // It was used if it is the answer: a flag would say that a second time.
             if f.answer == (register as u64) {
                 s.registers = set;
@@ -284,151 +274,124 @@ impl Arena<'_> {
         }
         AnswerAndState {
             state: s,
-            answer: inner(node),
+            answer: inner(self.index),
         }
     }
 
     // A flat child in d; a block is its tail. Any other child is left to the walk, by the node that it comes to. `peek`, `peek_into` and `peek_jump` differ in what they
     // ask and give, and share the nodes' functions and their end: one function of all three would be those differences.
-    pub(crate) fn peek_into(
-        &self,
-        buffers: &mut Buffers,
-        state: State,
-        node: u32,
-        d: u32,
-    ) -> AnswerAndState
-        requires { InArena self.now.nodes.now node × (d < any) }
+    pub(crate) fn peek_into(self, buffers: &mut Buffers, state: State, d: u32) -> AnswerAndState
+        requires { d < any }
         ensures done { is_inner result.answer ≡ false →
-            settled (lower_materializing (lower_expression free_temp (tree_of self.now.nodes.now self.now.list.now self.now.names.now) node) (Some (register_at d)) (made_of buffers.old state))
-            ≡ seen (tree_of self.now.nodes.now self.now.list.now self.now.names.now) register_at (made_of buffers.new result.state) result.answer }
-        ensures inner { is_inner result.answer ≡ true → NothingDone buffers.old buffers.new state result × ((value_of result.answer ≤ node) × (binary_kind ≤ node_word_of self.now.nodes.now (value_of result.answer) 0)) }
+            settled (lower_materializing (lower_expression free_temp (tree self.entry.arena.now) self.entry.index) (Some (register_at d)) (made_of buffers.old state))
+            ≡ seen (tree self.entry.arena.now) register_at (made_of buffers.new result.state) result.answer }
+        ensures inner { is_inner result.answer ≡ true → NothingDone buffers.old buffers.new state result × ((value_of result.answer ≤ self.entry.index) × (binary_kind ≤ node_word_of self.entry.arena.now.nodes.now (value_of result.answer) 0)) }
         ensures same { (e : Register) (m : Made) → is_inner result.answer ≡ true →
-            lower_materializing (lower_expression free_temp (tree_of self.now.nodes.now self.now.list.now self.now.names.now) node) (Some e) m
-            ≡ lower_materializing (lower_expression free_temp (tree_of self.now.nodes.now self.now.list.now self.now.names.now) (value_of result.answer)) (Some e) m }
+            lower_materializing (lower_expression free_temp (tree self.entry.arena.now) self.entry.index) (Some e) m
+            ≡ lower_materializing (lower_expression free_temp (tree self.entry.arena.now) (value_of result.answer)) (Some e) m }
         ensures kept { Kept buffers.old buffers.new }
     {
-        let tail = self.tail_of(node);
-        if self.is_simple(tail) {
-            let f = self.lower_flat(buffers, Counts::of(state), tail, Asked::Into, d);
+        let tail = NodeRef {
+            arena: self.arena,
+            index: self.tail_of(),
+        };
+        if tail.is_simple() {
+            let f = tail.lower_flat(buffers, Counts::of(state), Asked::Into, d);
             return f.on(state);
         }
         AnswerAndState {
             state,
-            answer: inner(tail),
+            answer: inner(tail.index),
         }
     }
 
     // A name as a condition: the test of its own register. The jump's place is the answer.
     #[tactic(auto, using(steps::proofs::Words::refusal_start_lem))]
-    fn name_tested(
-        &self,
-        buffers: &mut Buffers,
-        counts: Counts,
-        node: u32,
-        sense: bool,
-    ) -> AnswerAndCounts
-        requires { InArena self.now.nodes.now node × (node_word_of self.now.nodes.now node 0 ≡ name_kind) }
+    fn name_tested(self, buffers: &mut Buffers, counts: Counts, sense: bool) -> AnswerAndCounts
+        requires { word_at self 0 ≡ name_kind }
         ensures step { (list : List ℕ) (rs : RegisterSet) (n : ℕ) →
-            settled (jump_node (tree_of self.now.nodes.now list self.now.names.now) (lower_expression free_temp (tree_of self.now.nodes.now list self.now.names.now)) sense (lower_expression free_temp (tree_of self.now.nodes.now list self.now.names.now) node) (node_at (words self.now.nodes.now) node)
+            settled (jump_node (tree_of self.entry.arena.now.nodes.now list self.entry.arena.now.names.now) (lower_expression free_temp (tree_of self.entry.arena.now.nodes.now list self.entry.arena.now.names.now)) sense (lower_expression free_temp (tree_of self.entry.arena.now.nodes.now list self.entry.arena.now.names.now) self.entry.index) (tree_node self.entry)
             (made_of buffers.old (state_of rs counts n)))
-            ≡ seen (tree_of self.now.nodes.now list self.now.names.now) place_at (made_of buffers.new (state_of rs result.counts n)) result.answer }
+            ≡ seen (tree_of self.entry.arena.now.nodes.now list self.entry.arena.now.names.now) place_at (made_of buffers.new (state_of rs result.counts n)) result.answer }
         ensures word { WordOrRefusal result.answer }
         ensures kept { Kept buffers.old buffers.new }
     {
-        let Some(register) = self.find(self.node_word(node, 1)) else {
-            return counts.refused(Refusal::Undeclared, node);
+        let Some(register) = self.arena.find(self.word(1)) else {
+            return counts.refused(Refusal::Undeclared, self.index);
         };
         emit(buffers.code, counts, jump_if(sense), reg_of(register), 0, 0)
     }
 
     // A comparison of two leaves as a condition: the fused jump. Any other operator is left to the walk. What it has in common with `binary_into` are two calls.
     #[tactic(auto, using(steps::proofs::Words::is_inner_refusal, steps::proofs::Words::is_inner_inner, crate::proofs::FlatNodes::no_inner))]
-    fn compared_leaves(
-        &self,
-        buffers: &mut Buffers,
-        counts: Counts,
-        node: u32,
-        sense: bool,
-    ) -> AnswerAndCounts
-        requires { InArena self.now.nodes.now node × (node_word_of self.now.nodes.now node 0 ≡ binary_kind) }
+    fn compared_leaves(self, buffers: &mut Buffers, counts: Counts, sense: bool) -> AnswerAndCounts
+        requires { word_at self 0 ≡ binary_kind }
         ensures step { (rs : RegisterSet) (n : ℕ) → is_inner result.answer ≡ false →
-            settled (jump_node (tree_of self.now.nodes.now self.now.list.now self.now.names.now) (lower_expression free_temp (tree_of self.now.nodes.now self.now.list.now self.now.names.now)) sense (lower_expression free_temp (tree_of self.now.nodes.now self.now.list.now self.now.names.now) node) (node_at (words self.now.nodes.now) node) (made_of buffers.old (state_of rs counts n)))
-            ≡ seen (tree_of self.now.nodes.now self.now.list.now self.now.names.now) place_at (made_of buffers.new (state_of rs result.counts n)) result.answer }
+            settled (jump_node (tree self.entry.arena.now) (lower_expression free_temp (tree self.entry.arena.now)) sense (lower_expression free_temp (tree self.entry.arena.now) self.entry.index) (tree_node self.entry) (made_of buffers.old (state_of rs counts n)))
+            ≡ seen (tree self.entry.arena.now) place_at (made_of buffers.new (state_of rs result.counts n)) result.answer }
         ensures inner { is_inner result.answer ≡ true →
-            (result ≡ record { counts = counts; answer = word_end + node }) × Untouched buffers.old buffers.new }
+            (result ≡ record { counts = counts; answer = word_end + self.entry.index }) × Untouched buffers.old buffers.new }
         ensures kept { Kept buffers.old buffers.new }
     {
-        let operator = BinaryOp::of(self.node_word(node, 1));
-        let left = self.node_word(node, 2);
-        let right = self.node_word(node, 3);
+        let operator = BinaryOp::of(self.word(1));
         if !is_comparison(operator) {
-            return counts.left(node);
+            return counts.left(self.index);
         }
-        if !self.are_leaves(left, right) {
-            return counts.left(node);
+        if !self.has_leaves() {
+            return counts.left(self.index);
         }
-        match self.leaf_operands(left, right) {
-            Ok((src1, src2)) => self.fused_jump(buffers, counts, node, sense, src1, src2),
+        match self.leaf_operands() {
+            Ok((src1, src2)) => self.fused_jump(buffers, counts, sense, src1, src2),
             Err(leaf) => counts.refused(Refusal::Undeclared, leaf),
         }
     }
 
     // A name, or a comparison of leaves, on two counts.
     #[tactic(auto, using(steps::proofs::Words::is_inner_inner, crate::proofs::FlatNodes::no_inner))]
-    fn flat_jump(
-        &self,
-        buffers: &mut Buffers,
-        counts: Counts,
-        node: u32,
-        sense: bool,
-    ) -> AnswerAndCounts
-        requires { InArena self.now.nodes.now node }
+    fn flat_jump(self, buffers: &mut Buffers, counts: Counts, sense: bool) -> AnswerAndCounts
         ensures step { (rs : RegisterSet) (n : ℕ) → is_inner result.answer ≡ false →
-            settled (jump_node (tree_of self.now.nodes.now self.now.list.now self.now.names.now) (lower_expression free_temp (tree_of self.now.nodes.now self.now.list.now self.now.names.now)) sense (lower_expression free_temp (tree_of self.now.nodes.now self.now.list.now self.now.names.now) node) (node_at (words self.now.nodes.now) node) (made_of buffers.old (state_of rs counts n)))
-            ≡ seen (tree_of self.now.nodes.now self.now.list.now self.now.names.now) place_at (made_of buffers.new (state_of rs result.counts n)) result.answer }
+            settled (jump_node (tree self.entry.arena.now) (lower_expression free_temp (tree self.entry.arena.now)) sense (lower_expression free_temp (tree self.entry.arena.now) self.entry.index) (tree_node self.entry) (made_of buffers.old (state_of rs counts n)))
+            ≡ seen (tree self.entry.arena.now) place_at (made_of buffers.new (state_of rs result.counts n)) result.answer }
         ensures inner { is_inner result.answer ≡ true →
-            (result ≡ record { counts = counts; answer = word_end + node }) × Untouched buffers.old buffers.new }
+            (result ≡ record { counts = counts; answer = word_end + self.entry.index }) × Untouched buffers.old buffers.new }
         ensures kept { Kept buffers.old buffers.new }
     {
-        let kind = self.kind(node);
+        let kind = self.kind();
         if kind == Kind::Identifier {
-            return self.name_tested(buffers, counts, node, sense);
+            return self.name_tested(buffers, counts, sense);
         }
         if kind != Kind::Binary {
-            return counts.left(node);
+            return counts.left(self.index);
         }
-        self.compared_leaves(buffers, counts, node, sense)
+        self.compared_leaves(buffers, counts, sense)
     }
 
     // A name, or a comparison of leaves, as a condition: the place of the jump that is taken where it gives `sense`. Any other node is left to the walk.
     pub(crate) fn peek_jump(
-        &self,
+        self,
         buffers: &mut Buffers,
         state: State,
-        node: u32,
         sense: bool,
     ) -> AnswerAndState
-        requires { InArena self.now.nodes.now node }
         ensures step { is_inner result.answer ≡ false →
-            settled (jump_node (tree_of self.now.nodes.now self.now.list.now self.now.names.now) (lower_expression free_temp (tree_of self.now.nodes.now self.now.list.now self.now.names.now)) sense (lower_expression free_temp (tree_of self.now.nodes.now self.now.list.now self.now.names.now) node) (node_at (words self.now.nodes.now) node) (made_of buffers.old state))
-            ≡ seen (tree_of self.now.nodes.now self.now.list.now self.now.names.now) place_at (made_of buffers.new result.state) result.answer }
+            settled (jump_node (tree self.entry.arena.now) (lower_expression free_temp (tree self.entry.arena.now)) sense (lower_expression free_temp (tree self.entry.arena.now) self.entry.index) (tree_node self.entry) (made_of buffers.old state))
+            ≡ seen (tree self.entry.arena.now) place_at (made_of buffers.new result.state) result.answer }
         ensures inner { is_inner result.answer ≡ true → NothingDone buffers.old buffers.new state result }
         ensures kept { Kept buffers.old buffers.new }
     {
-        let f = self.flat_jump(buffers, Counts::of(state), node, sense);
+        let f = self.flat_jump(buffers, Counts::of(state), sense);
         f.on(state)
     }
 
     // A key that is pooled: a literal, or the name itself as a string.
     #[tactic(auto, using(crate::proofs::Reading::node_other), unfolding(crate::specs::Kinds::key_operand, syntax::specs::Ast::node_at))]
-    pub(crate) fn key_operand(&self, key: u32) -> Operand
-        requires { InArena self.now.nodes.now key }
-        ensures { result ≡ key_operand (node_at (words self.now.nodes.now) key) }
+    pub(crate) fn key_operand(self) -> Operand
+        ensures { result ≡ key_operand (tree_node self.entry) }
     {
-        if self.kind(key) == Kind::Identifier {
-            return Operand::String(self.node_word(key, 1));
+        if self.kind() == Kind::Identifier {
+            return Operand::String(self.word(1));
         }
-        self.literal(key)
+        self.literal()
     }
 
     // An entry of leaves, or a key alone, on two counts: "Literals left over are pooled last, key before value." Any other entry is left to the walk, and nothing
@@ -436,39 +399,41 @@ impl Arena<'_> {
     // entry has it, and is read by `node_of`.
     #[tactic(auto, using(steps::proofs::Words::is_inner_refusal, steps::proofs::Words::is_inner_inner, steps::proofs::Words::is_inner_word))]
     pub(crate) fn flat_entry(
-        &self,
+        self,
         buffers: &mut Buffers,
         counts: Counts,
         d: u32,
-        key: u32,
         value: u32,
     ) -> AnswerAndCounts
-        requires { InArena self.now.nodes.now key × (value ≢ absent → InArena self.now.nodes.now value) }
+        requires { value ≢ absent → InArena self.arena.now.nodes.now value }
         ensures step { (list : List ℕ) (rs : RegisterSet) (n : ℕ) → is_inner result.answer ≡ false →
-            settled (lower_entry (tree_of self.now.nodes.now list self.now.names.now) (lower_expression free_temp (tree_of self.now.nodes.now list self.now.names.now)) (register_at d) key value (name_of (node_at (words self.now.nodes.now) key)) (made_of buffers.old (state_of rs counts n)))
-            ≡ seen (tree_of self.now.nodes.now list self.now.names.now) place_at (made_of buffers.new (state_of rs result.counts n)) result.answer }
+            settled (lower_entry (tree_of self.entry.arena.now.nodes.now list self.entry.arena.now.names.now) (lower_expression free_temp (tree_of self.entry.arena.now.nodes.now list self.entry.arena.now.names.now)) (register_at d) self.entry.index value (name_of (tree_node self.entry)) (made_of buffers.old (state_of rs counts n)))
+            ≡ seen (tree_of self.entry.arena.now.nodes.now list self.entry.arena.now.names.now) place_at (made_of buffers.new (state_of rs result.counts n)) result.answer }
         ensures inner { is_inner result.answer ≡ true →
-            (result ≡ record { counts = counts; answer = word_end + key }) × (Untouched buffers.old buffers.new × (value ≢ absent)) }
+            (result ≡ record { counts = counts; answer = word_end + self.entry.index }) × (Untouched buffers.old buffers.new × (value ≢ absent)) }
         ensures kept { Kept buffers.old buffers.new }
     {
-        let kind = self.kind(key);
+        let kind = self.kind();
         if (kind != Kind::Identifier) & node_of(value).is_none() {
-            return counts.refused(Refusal::Key, key);
+            return counts.refused(Refusal::Key, self.index);
         }
-        let child = value_or_key(key, value);
-        if !kind.is_leaf() | !self.kind(child).is_leaf() {
-            return counts.left(key);
-        }
-        let Some(src) = self.leaf_operand(child) else {
-            return counts.refused(Refusal::Undeclared, child);
+        let child = NodeRef {
+            arena: self.arena,
+            index: value_or_key(self.index, value),
         };
-        let first_field = store(buffers.constants, counts, self.key_operand(key));
+        if !kind.is_leaf() | !child.kind().is_leaf() {
+            return counts.left(self.index);
+        }
+        let Some(src) = child.leaf_operand() else {
+            return counts.refused(Refusal::Undeclared, child.index);
+        };
+        let first_field = store(buffers.constants, counts, self.key_operand());
         if is_refusal(first_field.answer) {
             return first_field;
         }
         let first = value_of(first_field.answer);
         let pooled = first_field.counts;
-        let second_field = field_of(buffers.constants, pooled, src, self.literal(child));
+        let second_field = field_of(buffers.constants, pooled, src, child.literal());
         if is_refusal(second_field.answer) {
             return second_field;
         }
@@ -486,24 +451,23 @@ impl Arena<'_> {
 
     // The operator of a node on two operands, into d, where not both are literals. What they held is given back by the walk.
     pub(crate) fn binary_operation(
-        &self,
+        self,
         buffers: &mut Buffers,
         counts: Counts,
-        node: u32,
         d: u32,
         src1: u32,
         src2: u32,
     ) -> AnswerAndCounts
-        requires { InArena self.now.nodes.now node × (node_word_of self.now.nodes.now node 0 ≡ binary_kind) }
+        requires { word_at self 0 ≡ binary_kind }
         ensures step { (list names : List ℕ) (rs : RegisterSet) (n : ℕ) (E : ℕ → Option Register → Walk Operand) → eqb src1 literal_word && eqb src2 literal_word ≡ false →
-            settled (binary_sources (λ x. ret tt) (tree_of self.now.nodes.now list names) E (binary_op (node_word_of self.now.nodes.now node 1)) (node_word_of self.now.nodes.now node 2) (node_word_of self.now.nodes.now node 3) (register_at d)
-            (source_at (literal (node_at (words self.now.nodes.now) (node_word_of self.now.nodes.now node 2))) src1) (source_at (literal (node_at (words self.now.nodes.now) (node_word_of self.now.nodes.now node 3))) src2) (made_of buffers.old (state_of rs counts n)))
-            ≡ seen (tree_of self.now.nodes.now list names) (λ w. Operand.Register (register_at w)) (made_of buffers.new (state_of rs result.counts n)) result.answer }
+            settled (binary_sources (λ x. ret tt) (tree_of self.entry.arena.now.nodes.now list names) E (binary_op (word_at self.entry 1)) (word_at self.entry 2) (word_at self.entry 3) (register_at d)
+            (source_at (literal (node_at (words self.entry.arena.now.nodes.now) (word_at self.entry 2))) src1) (source_at (literal (node_at (words self.entry.arena.now.nodes.now) (word_at self.entry 3))) src2) (made_of buffers.old (state_of rs counts n)))
+            ≡ seen (tree_of self.entry.arena.now.nodes.now list names) (λ w. Operand.Register (register_at w)) (made_of buffers.new (state_of rs result.counts n)) result.answer }
         ensures word { DestOrRefusal d result.answer }
         ensures kept { Kept buffers.old buffers.new }
     {
-        let operator = BinaryOp::of(self.node_word(node, 1));
-        let sources = self.sources(node, src1, src2);
+        let operator = BinaryOp::of(self.word(1));
+        let sources = self.sources(src1, src2);
         binary_sources(
             buffers.code,
             buffers.constants,
@@ -516,25 +480,24 @@ impl Arena<'_> {
 
     // The jump of a comparison on two operands, where not both are literals. It and `binary_operation` are each one call: one function of both would take that call.
     pub(crate) fn fused_jump(
-        &self,
+        self,
         buffers: &mut Buffers,
         counts: Counts,
-        node: u32,
         sense: bool,
         src1: u32,
         src2: u32,
     ) -> AnswerAndCounts
-        requires { InArena self.now.nodes.now node × (node_word_of self.now.nodes.now node 0 ≡ binary_kind) }
+        requires { word_at self 0 ≡ binary_kind }
         ensures step { (list names : List ℕ) (rs : RegisterSet) (n : ℕ) (E : ℕ → Option Register → Walk Operand) (own : Option Register → Walk Operand) (c : Comparison) →
-            eqb src1 literal_word && eqb src2 literal_word ≡ false → comparison (binary_op (node_word_of self.now.nodes.now node 1)) ≡ Some c →
-            settled (fused_sources (tree_of self.now.nodes.now list names) E sense own c
-            (source_at (literal (node_at (words self.now.nodes.now) (node_word_of self.now.nodes.now node 2))) src1) (source_at (literal (node_at (words self.now.nodes.now) (node_word_of self.now.nodes.now node 3))) src2) (made_of buffers.old (state_of rs counts n)))
-            ≡ seen (tree_of self.now.nodes.now list names) place_at (made_of buffers.new (state_of rs result.counts n)) result.answer }
+            eqb src1 literal_word && eqb src2 literal_word ≡ false → comparison (binary_op (word_at self.entry 1)) ≡ Some c →
+            settled (fused_sources (tree_of self.entry.arena.now.nodes.now list names) E sense own c
+            (source_at (literal (node_at (words self.entry.arena.now.nodes.now) (word_at self.entry 2))) src1) (source_at (literal (node_at (words self.entry.arena.now.nodes.now) (word_at self.entry 3))) src2) (made_of buffers.old (state_of rs counts n)))
+            ≡ seen (tree_of self.entry.arena.now.nodes.now list names) place_at (made_of buffers.new (state_of rs result.counts n)) result.answer }
         ensures word { WordOrRefusal result.answer }
         ensures kept { Kept buffers.old buffers.new }
     {
-        let operator = BinaryOp::of(self.node_word(node, 1));
-        let sources = self.sources(node, src1, src2);
+        let operator = BinaryOp::of(self.word(1));
+        let sources = self.sources(src1, src2);
         fused_sources(
             buffers.code,
             buffers.constants,

@@ -4,6 +4,7 @@
 mod arena;
 mod flat;
 mod lower_expression;
+mod node;
 
 ghost use Rattle.std.specs.Prelude.{◌≡◌, List, ◌++◌, ℕ, ◌<◌};
 ghost use Rattle.words.specs.Words.{words, tail, bytes_of};
@@ -18,7 +19,7 @@ ghost use Rattle.codegen.specs.Ready.{InArena, Ready, Lowers};
 ghost use Rattle.result.specs.Numbers.{numbers};
 ghost use Rattle.codegen.specs.Roots.{conditional};
 
-use crate::arena::{Arena, Buffers};
+use crate::arena::{Arena, Buffers, NodeRef};
 use crate::flat::Asked;
 use environment::RegisterSet;
 use lowering::State;
@@ -41,14 +42,13 @@ fn patch_and_answer(code: &mut [u8], marks: &mut [u8], state: State, place: u32)
     }
 }
 
-impl Arena<'_> {
+impl NodeRef<'_> {
     // Mode 0: the root's value, returned.
-    fn lower_value(&self, buffers: &mut Buffers, state: State, root: u32) -> AnswerAndState
-        requires { InArena self.now.nodes.now root }
-        ensures lowers { Walks (λ t. place_at) (λ t. lower_root free_temp t 0 root) self.now buffers.old buffers.new state result }
+    fn lower_value(self, buffers: &mut Buffers, state: State) -> AnswerAndState
+        ensures lowers { Walks (λ t. place_at) (λ t. lower_root free_temp t 0 self.entry.index) self.entry.arena.now buffers.old buffers.new state result }
         ensures kept { Kept buffers.old buffers.new }
     {
-        let f = self.peek(buffers, state, root, Asked::Register);
+        let f = self.peek(buffers, state, Asked::Register);
         let r = self.lower_materializing(buffers, state, f, None);
         if is_refusal(r.answer) {
             return r;
@@ -64,23 +64,29 @@ impl Arena<'_> {
     }
 
     // Modes 1 and 2: the root as a condition. The answer is the jump's place.
-    fn lower_condition(
-        &self,
-        buffers: &mut Buffers,
-        state: State,
-        root: u32,
-        sense: bool,
-    ) -> AnswerAndState
-        requires { InArena self.now.nodes.now root }
-        ensures lowers { Walks (λ t. place_at) (λ t. conditional t sense root) self.now buffers.old buffers.new state result }
+    fn lower_condition(self, buffers: &mut Buffers, state: State, sense: bool) -> AnswerAndState
+        ensures lowers { Walks (λ t. place_at) (λ t. conditional t sense self.entry.index) self.entry.arena.now buffers.old buffers.new state result }
         ensures kept { Kept buffers.old buffers.new }
     {
-        let r = self.lower_jump_if(buffers, state, root, sense);
+        let r = self.lower_jump_if(buffers, state, sense);
         if is_refusal(r.answer) {
             return r;
         }
         let s = r.state;
         patch_and_answer(buffers.code, buffers.marks, s, value_of(r.answer))
+    }
+
+    // The root by its mode. A mode stays a number here: it is matched once, and an enum would need that match to be made, where the definition of `lower_root` matches on
+    // the number.
+    fn lower_root(self, buffers: &mut Buffers, state: State, mode: u32) -> AnswerAndState
+        ensures lowers { Walks (λ t. place_at) (λ t. lower_root free_temp t mode self.entry.index) self.entry.arena.now buffers.old buffers.new state result }
+        ensures kept { Kept buffers.old buffers.new }
+    {
+        match mode {
+            0 => self.lower_value(buffers, state),
+            1 => self.lower_condition(buffers, state, false),
+            _ => self.lower_condition(buffers, state, true),
+        }
     }
 }
 
@@ -101,34 +107,16 @@ fn lower_lent(
         code.old constants.old marks.old code.new constants.new marks.new state result }
 {
     let arena = Arena { nodes, list, names };
+    let root = NodeRef {
+        arena: &arena,
+        index: root,
+    };
     let mut buffers = Buffers {
         code,
         constants,
         marks,
     };
-    arena.lower_root(&mut buffers, state, mode, root)
-}
-
-impl Arena<'_> {
-    // The root by its mode. A mode stays a number here: it is matched once, and an enum would need that match to be made, where the definition of `lower_root` matches on
-    // the number.
-    fn lower_root(
-        &self,
-        buffers: &mut Buffers,
-        state: State,
-        mode: u32,
-        root: u32,
-    ) -> AnswerAndState
-        requires { InArena self.now.nodes.now root }
-        ensures lowers { Walks (λ t. place_at) (λ t. lower_root free_temp t mode root) self.now buffers.old buffers.new state result }
-        ensures kept { Kept buffers.old buffers.new }
-    {
-        match mode {
-            0 => self.lower_value(buffers, state, root),
-            1 => self.lower_condition(buffers, state, root, false),
-            _ => self.lower_condition(buffers, state, root, true),
-        }
-    }
+    root.lower_root(&mut buffers, state, mode)
 }
 
 // Every question was answered yes: the walk is lent the whole words of each buffer.

@@ -3,7 +3,7 @@
 // will do. A child is tried first (`peek`, `peek_into`), and walked if it is not flat. A state that is passed on is a copy of its own: the walk's own state
 // then stays in machine registers. The lines that take a destination, try a child and walk it, or end an arm stand in each arm: with one function for a child,
 // bushy trees took a fifth and properties a quarter more time, and with one for the end of unary, call and property, properties a tenth.
-ghost use Rattle.std.specs.Prelude.{◌≡◌, ◌≢◌, ◌⊎◌, true, false, List, [], ◌∷◌, ℕ, Option};
+ghost use Rattle.std.specs.Prelude.{◌≡◌, ◌≢◌, ◌⊎◌, ◌≤◌, true, false, List, [], ◌∷◌, ℕ, Option};
 ghost use Rattle.environment.specs.declared.Register.{Register};
 ghost use Rattle.words.specs.Words.{words};
 ghost use Rattle.syntax.specs.Ops.{binary_op, unary_op};
@@ -18,11 +18,11 @@ ghost use Rattle.lowering.specs.Steps.{free_temp};
 ghost use Rattle.lowering.specs.Literals.{literal};
 ghost use Rattle.lowering.specs.Lower.{name_of, store_keyed, lower_arguments, lower_entry, test, jump_node, lower_expression, lower_jump_if_false};
 ghost use Rattle.steps.specs.Answers.{Aimed, register_at, dest_of, operand_at, source_at, place_at, unit_at, settled, seen, is_inner, value_of, DestOrRefusal};
-ghost use Rattle.codegen.specs.Walks.{Kept, made_of, Untouched, Walks};
+ghost use Rattle.codegen.specs.Walks.{tree, word_at, tree_node, Kept, made_of, Untouched, Walks};
 ghost use Rattle.codegen.specs.Ready.{InArena, node_word_of, EntryBelow};
 ghost use Rattle.codegen.specs.Kinds.{name_kind, binary_kind, unary_kind, not_kind, and_kind, or_kind, if_kind, block_kind, call_kind, property_kind, map_kind, only_operand, key_operand, lower_literals, is_compared};
 
-use crate::arena::{Arena, Buffers};
+use crate::arena::{Buffers, NodeRef};
 use crate::flat::{Asked, set_opcode};
 use diagnostics::Refusal;
 use lowering::State;
@@ -41,128 +41,124 @@ use syntax::kind::Kind;
 use syntax::ops::{BinaryOp, UnaryOp};
 use words::word;
 
-impl Arena<'_> {
+impl NodeRef<'_> {
     // A node as an expression, by its kind. A literal is LITERAL, and nothing is done. The arms that go deep are asked for first: the compiler inlines what it
     // takes for frequent. As one `match` on the kind, deep and bushy trees took a fifth more time.
     #[cycle(walk)]
     fn lower_expression(
-        &self,
+        self,
         buffers: &mut Buffers,
         state: State,
-        node: u32,
         dest: Option<u32>,
     ) -> AnswerAndState
-        requires { InArena self.now.nodes.now node × Aimed dest }
-        ensures lowers { Walks (λ t. operand_at (node_at t.nodes node)) (λ t. lower_expression free_temp t node (dest_of dest)) self.now buffers.old buffers.new state result }
+        requires { Aimed dest }
+        ensures lowers { Walks (λ t. operand_at (node_at t.nodes self.entry.index)) (λ t. lower_expression free_temp t self.entry.index (dest_of dest)) self.entry.arena.now buffers.old buffers.new state result }
         ensures kept { Kept buffers.old buffers.new }
     {
-        let kind = self.kind(node);
+        let kind = self.kind();
         let s = state;
         if kind.jumps() {
             if kind == Kind::If {
-                return self.lower_if(buffers, s, node, dest);
+                return self.lower_if(buffers, s, dest);
             }
-            return self.logical(buffers, s, node, dest);
+            return self.logical(buffers, s, dest);
         }
         if kind.is_leaf_or_operator() {
             if kind == Kind::Binary {
-                return self.lower_binary(buffers, s, node, dest);
+                return self.lower_binary(buffers, s, dest);
             }
             if kind.is_literal() {
                 return answered(s, LITERAL);
             }
             if kind == Kind::Identifier {
-                return self.lower_name(buffers, s, node, dest);
+                return self.lower_name(buffers, s, dest);
             }
-            return self.lower_unary(buffers, s, node, dest);
+            return self.lower_unary(buffers, s, dest);
         }
         match kind {
-            Kind::Block => self.lower_block(buffers, s, node, dest),
-            Kind::FunctionCall => self.lower_call(buffers, s, node, dest),
-            Kind::PropertyAccess => self.property(buffers, s, node, dest),
-            _ => self.lower_map(buffers, s, node, dest),
+            Kind::Block => self.lower_block(buffers, s, dest),
+            Kind::FunctionCall => self.lower_call(buffers, s, dest),
+            Kind::PropertyAccess => self.property(buffers, s, dest),
+            _ => self.lower_map(buffers, s, dest),
         }
     }
 
     // A child that was peeked at: it is done, or the node that it comes to is walked, from the state before the peek.
     #[cycle(walk)]
     pub(crate) fn lower_materializing(
-        &self,
+        self,
         buffers: &mut Buffers,
         state: State,
         peeked: AnswerAndState,
         dest: Option<u32>,
     ) -> AnswerAndState
-        requires { is_inner peeked.answer ≡ true → (InArena self.now.nodes.now (value_of peeked.answer) × Aimed dest) }
-        ensures walked { is_inner peeked.answer ≡ true → Walks (λ t. operand_at (node_at t.nodes (value_of peeked.answer))) (λ t. lower_expression free_temp t (value_of peeked.answer) (dest_of dest)) self.now buffers.old buffers.new state result }
+        requires { is_inner peeked.answer ≡ true → ((value_of peeked.answer ≤ self.index) × Aimed dest) }
+        ensures walked { is_inner peeked.answer ≡ true → Walks (λ t. operand_at (node_at t.nodes (value_of peeked.answer))) (λ t. lower_expression free_temp t (value_of peeked.answer) (dest_of dest)) self.entry.arena.now buffers.old buffers.new state result }
         ensures done { is_inner peeked.answer ≡ false → (result ≡ peeked) × Untouched buffers.old buffers.new }
         ensures kept { Kept buffers.old buffers.new }
     {
         let answer = peeked.answer;
         if is_inner(answer) {
             let t = state;
-            let node = value_of(answer);
-            return self.lower_expression(buffers, t, node, dest);
+            let node = NodeRef {
+                arena: self.arena,
+                index: value_of(answer),
+            };
+            return node.lower_expression(buffers, t, dest);
         }
         peeked
     }
 
     // Name: its own register, or a Move if another destination was given. Takes nothing.
-    fn lower_name(
-        &self,
-        buffers: &mut Buffers,
-        state: State,
-        node: u32,
-        dest: Option<u32>,
-    ) -> AnswerAndState
-        requires { InArena self.now.nodes.now node × ((node_word_of self.now.nodes.now node 0 ≡ name_kind) × Aimed dest) }
-        ensures lowers { (list : List ℕ) → settled (lower_expression free_temp (tree_of self.now.nodes.now list self.now.names.now) node (dest_of dest) (made_of buffers.old state))
-            ≡ seen (tree_of self.now.nodes.now list self.now.names.now) (operand_at (node_at (words self.now.nodes.now) node)) (made_of buffers.new result.state) result.answer }
+    fn lower_name(self, buffers: &mut Buffers, state: State, dest: Option<u32>) -> AnswerAndState
+        requires { (word_at self 0 ≡ name_kind) × Aimed dest }
+        ensures lowers { (list : List ℕ) → settled (lower_expression free_temp (tree_of self.entry.arena.now.nodes.now list self.entry.arena.now.names.now) self.entry.index (dest_of dest) (made_of buffers.old state))
+            ≡ seen (tree_of self.entry.arena.now.nodes.now list self.entry.arena.now.names.now) (operand_at (tree_node self.entry)) (made_of buffers.new result.state) result.answer }
         ensures kept { Kept buffers.old buffers.new }
     {
-        let f = self.name_into(buffers, Counts::of(state), node, dest);
+        let f = self.name_into(buffers, Counts::of(state), dest);
         f.on(state)
     }
 
     // Binary: destination first, left, right, then constants pooled, one instruction. Gives back what the operands held.
     #[cycle(walk)]
-    fn lower_binary(
-        &self,
-        buffers: &mut Buffers,
-        state: State,
-        node: u32,
-        dest: Option<u32>,
-    ) -> AnswerAndState
-        requires { (InArena self.now.nodes.now node × Aimed dest) × (node_word_of self.now.nodes.now node 0 ≡ binary_kind) }
-        ensures lowers { Walks (λ t. operand_at (node_at t.nodes node)) (λ t. lower_expression free_temp t node (dest_of dest)) self.now buffers.old buffers.new state result }
+    fn lower_binary(self, buffers: &mut Buffers, state: State, dest: Option<u32>) -> AnswerAndState
+        requires { Aimed dest × (word_at self 0 ≡ binary_kind) }
+        ensures lowers { Walks (λ t. operand_at (node_at t.nodes self.entry.index)) (λ t. lower_expression free_temp t self.entry.index (dest_of dest)) self.entry.arena.now buffers.old buffers.new state result }
         ensures kept { Kept buffers.old buffers.new }
     {
-        let left = self.node_word(node, 2);
-        let right = self.node_word(node, 3);
+        let left = NodeRef {
+            arena: self.arena,
+            index: self.word(2),
+        };
+        let right = NodeRef {
+            arena: self.arena,
+            index: self.word(3),
+        };
         let t = destination(state, dest);
         if is_refusal(t.answer) {
             return t;
         }
         let d = value_of(t.answer);
         let s1 = t.state;
-        let f1 = self.peek(buffers, s1, left, Asked::Operand);
-        let r1 = self.lower_materializing(buffers, s1, f1, None);
+        let f1 = left.peek(buffers, s1, Asked::Operand);
+        let r1 = left.lower_materializing(buffers, s1, f1, None);
         if is_refusal(r1.answer) {
             return r1;
         }
         let src1 = value_of(r1.answer);
         let s2 = r1.state;
-        let f2 = self.peek(buffers, s2, right, Asked::Operand);
-        let r2 = self.lower_materializing(buffers, s2, f2, None);
+        let f2 = right.peek(buffers, s2, Asked::Operand);
+        let r2 = right.lower_materializing(buffers, s2, f2, None);
         if is_refusal(r2.answer) {
             return r2;
         }
         let src2 = value_of(r2.answer);
         let s3 = r2.state;
         if (src1 == LITERAL) & (src2 == LITERAL) {
-            return self.lower_literals(buffers, s3, node, d);
+            return self.lower_literals(buffers, s3, d);
         }
-        let f = self.binary_operation(buffers, Counts::of(s3), node, d, src1, src2);
+        let f = self.binary_operation(buffers, Counts::of(s3), d, src1, src2);
         let e = f.on(s3);
         if is_refusal(e.answer) {
             return e;
@@ -177,46 +173,34 @@ impl Arena<'_> {
 
     // Binary, "Two literals are both loaded": each into a register that is taken, both given back. The last lines are those of `lower_binary` again: with one function
     // for both ends, bushy trees took a tenth more time.
-    fn lower_literals(
-        &self,
-        buffers: &mut Buffers,
-        state: State,
-        node: u32,
-        d: u32,
-    ) -> AnswerAndState
-        requires { InArena self.now.nodes.now node × (node_word_of self.now.nodes.now node 0 ≡ binary_kind) }
-        ensures by_index { (list names : List ℕ) → settled (lower_literals (tree_of self.now.nodes.now list names) (binary_op (node_word_of self.now.nodes.now node 1)) (node_word_of self.now.nodes.now node 2) (node_word_of self.now.nodes.now node 3) (register_at d) (made_of buffers.old state))
-            ≡ seen (tree_of self.now.nodes.now list names) (λ w. Operand.Register (register_at w)) (made_of buffers.new result.state) result.answer }
+    fn lower_literals(self, buffers: &mut Buffers, state: State, d: u32) -> AnswerAndState
+        requires { word_at self 0 ≡ binary_kind }
+        ensures by_index { (list names : List ℕ) → settled (lower_literals (tree_of self.entry.arena.now.nodes.now list names) (binary_op (word_at self.entry 1)) (word_at self.entry 2) (word_at self.entry 3) (register_at d) (made_of buffers.old state))
+            ≡ seen (tree_of self.entry.arena.now.nodes.now list names) (λ w. Operand.Register (register_at w)) (made_of buffers.new result.state) result.answer }
         ensures word { DestOrRefusal d result.answer }
         ensures kept { Kept buffers.old buffers.new }
     {
-        let left = self.node_word(node, 2);
-        let right = self.node_word(node, 3);
-        let r1 = load_constant(
-            buffers.code,
-            buffers.constants,
-            state,
-            self.literal(left),
-            None,
-        );
+        let left = NodeRef {
+            arena: self.arena,
+            index: self.word(2),
+        };
+        let right = NodeRef {
+            arena: self.arena,
+            index: self.word(3),
+        };
+        let r1 = load_constant(buffers.code, buffers.constants, state, left.literal(), None);
         if is_refusal(r1.answer) {
             return r1;
         }
         let s1 = r1.state;
         let src1 = value_of(r1.answer);
-        let r2 = load_constant(
-            buffers.code,
-            buffers.constants,
-            s1,
-            self.literal(right),
-            None,
-        );
+        let r2 = load_constant(buffers.code, buffers.constants, s1, right.literal(), None);
         if is_refusal(r2.answer) {
             return r2;
         }
         let s2 = r2.state;
         let src2 = value_of(r2.answer);
-        let operator = BinaryOp::of(self.node_word(node, 1));
+        let operator = BinaryOp::of(self.word(1));
         let swap = swaps(operator);
         let a = first_of(swap, reg_of(src1), reg_of(src2));
         let b = first_of(swap, reg_of(src2), reg_of(src1));
@@ -234,56 +218,51 @@ impl Arena<'_> {
 
     // The operand of a unary operator or of not, and its opcode.
     #[tactic(auto, unfolding(crate::specs::Kinds::only_operand))]
-    fn only_operand(&self, node: u32) -> u32
-        requires { InArena self.now.nodes.now node }
-        ensures { result ≡ only_operand self.now.nodes.now node }
+    fn only_operand(self) -> u32
+        ensures { result ≡ only_operand self.entry.arena.now.nodes.now self.entry.index }
     {
-        if self.kind(node) == Kind::Unary {
-            return self.node_word(node, 2);
+        if self.kind() == Kind::Unary {
+            return self.word(2);
         }
-        self.node_word(node, 1)
+        self.word(1)
     }
 
     #[tactic(auto, unfolding(runtime::specs::Instruction::words_of))]
-    fn only_opcode(&self, node: u32) -> Opcode
-        requires { InArena self.now.nodes.now node }
-        ensures unary { node_word_of self.now.nodes.now node 0 ≡ unary_kind → (d a : ℕ) → words_of (unary (unary_op (node_word_of self.now.nodes.now node 1)) d a) ≡ opcode_number result ∷ d ∷ a ∷ 0 ∷ [] }
-        ensures not { node_word_of self.now.nodes.now node 0 ≢ unary_kind → (d a : ℕ) → words_of (Instruction.Not d a) ≡ opcode_number result ∷ d ∷ a ∷ 0 ∷ [] }
+    fn only_opcode(self) -> Opcode
+        ensures unary { word_at self.entry 0 ≡ unary_kind → (d a : ℕ) → words_of (unary (unary_op (word_at self.entry 1)) d a) ≡ opcode_number result ∷ d ∷ a ∷ 0 ∷ [] }
+        ensures not { word_at self.entry 0 ≢ unary_kind → (d a : ℕ) → words_of (Instruction.Not d a) ≡ opcode_number result ∷ d ∷ a ∷ 0 ∷ [] }
     {
-        if self.kind(node) == Kind::Unary {
-            return unary(UnaryOp::of(self.node_word(node, 1)));
+        if self.kind() == Kind::Unary {
+            return unary(UnaryOp::of(self.word(1)));
         }
         Opcode::Not
     }
 
     // Unary, not: destination, operand, one instruction. Gives back what the operand held.
     #[cycle(walk)]
-    fn lower_unary(
-        &self,
-        buffers: &mut Buffers,
-        state: State,
-        node: u32,
-        dest: Option<u32>,
-    ) -> AnswerAndState
-        requires { (InArena self.now.nodes.now node × Aimed dest) × ((node_word_of self.now.nodes.now node 0 ≡ unary_kind) ⊎ (node_word_of self.now.nodes.now node 0 ≡ not_kind)) }
-        ensures lowers { Walks (λ t. operand_at (node_at t.nodes node)) (λ t. lower_expression free_temp t node (dest_of dest)) self.now buffers.old buffers.new state result }
+    fn lower_unary(self, buffers: &mut Buffers, state: State, dest: Option<u32>) -> AnswerAndState
+        requires { Aimed dest × ((word_at self 0 ≡ unary_kind) ⊎ (word_at self 0 ≡ not_kind)) }
+        ensures lowers { Walks (λ t. operand_at (node_at t.nodes self.entry.index)) (λ t. lower_expression free_temp t self.entry.index (dest_of dest)) self.entry.arena.now buffers.old buffers.new state result }
         ensures kept { Kept buffers.old buffers.new }
     {
-        let operand = self.only_operand(node);
+        let operand = NodeRef {
+            arena: self.arena,
+            index: self.only_operand(),
+        };
         let t = destination(state, dest);
         if is_refusal(t.answer) {
             return t;
         }
         let d = value_of(t.answer);
         let s1 = t.state;
-        let f1 = self.peek(buffers, s1, operand, Asked::Register);
-        let r1 = self.lower_materializing(buffers, s1, f1, None);
+        let f1 = operand.peek(buffers, s1, Asked::Register);
+        let r1 = operand.lower_materializing(buffers, s1, f1, None);
         if is_refusal(r1.answer) {
             return r1;
         }
         let src = value_of(r1.answer);
         let s = r1.state;
-        let opcode = self.only_opcode(node);
+        let opcode = self.only_opcode();
         let e = emit(buffers.code, s, opcode, reg_of(d), reg_of(src), 0);
         if is_refusal(e.answer) {
             return e;
@@ -293,12 +272,11 @@ impl Arena<'_> {
 
     // The jump over the right side of and, or.
     #[tactic(auto, unfolding(runtime::specs::Instruction::words_of))]
-    fn logical_jump(&self, node: u32) -> Opcode
-        requires { InArena self.now.nodes.now node }
-        ensures and { node_word_of self.now.nodes.now node 0 ≡ and_kind → (a : ℕ) → words_of (Instruction.JumpIfFalse a 0) ≡ opcode_number result ∷ a ∷ 0 ∷ 0 ∷ [] }
-        ensures or { node_word_of self.now.nodes.now node 0 ≢ and_kind → (a : ℕ) → words_of (Instruction.JumpIfTrue a 0) ≡ opcode_number result ∷ a ∷ 0 ∷ 0 ∷ [] }
+    fn logical_jump(self) -> Opcode
+        ensures and { word_at self.entry 0 ≡ and_kind → (a : ℕ) → words_of (Instruction.JumpIfFalse a 0) ≡ opcode_number result ∷ a ∷ 0 ∷ 0 ∷ [] }
+        ensures or { word_at self.entry 0 ≢ and_kind → (a : ℕ) → words_of (Instruction.JumpIfTrue a 0) ≡ opcode_number result ∷ a ∷ 0 ∷ 0 ∷ [] }
     {
-        if self.kind(node) == Kind::LogicalAnd {
+        if self.kind() == Kind::LogicalAnd {
             return Opcode::JumpIfFalse;
         }
         Opcode::JumpIfTrue
@@ -306,40 +284,40 @@ impl Arena<'_> {
 
     // And, or: left into the destination, jump, right into the same. Gives nothing back.
     #[cycle(walk)]
-    fn logical(
-        &self,
-        buffers: &mut Buffers,
-        state: State,
-        node: u32,
-        dest: Option<u32>,
-    ) -> AnswerAndState
-        requires { (InArena self.now.nodes.now node × Aimed dest) × ((node_word_of self.now.nodes.now node 0 ≡ and_kind) ⊎ (node_word_of self.now.nodes.now node 0 ≡ or_kind)) }
-        ensures lowers { Walks (λ t. operand_at (node_at t.nodes node)) (λ t. lower_expression free_temp t node (dest_of dest)) self.now buffers.old buffers.new state result }
+    fn logical(self, buffers: &mut Buffers, state: State, dest: Option<u32>) -> AnswerAndState
+        requires { Aimed dest × ((word_at self 0 ≡ and_kind) ⊎ (word_at self 0 ≡ or_kind)) }
+        ensures lowers { Walks (λ t. operand_at (node_at t.nodes self.entry.index)) (λ t. lower_expression free_temp t self.entry.index (dest_of dest)) self.entry.arena.now buffers.old buffers.new state result }
         ensures kept { Kept buffers.old buffers.new }
     {
-        let left = self.node_word(node, 1);
-        let right = self.node_word(node, 2);
+        let left = NodeRef {
+            arena: self.arena,
+            index: self.word(1),
+        };
+        let right = NodeRef {
+            arena: self.arena,
+            index: self.word(2),
+        };
         let t = destination(state, dest);
         if is_refusal(t.answer) {
             return t;
         }
         let d = value_of(t.answer);
         let s1 = t.state;
-        let f1 = self.peek_into(buffers, s1, left, d);
-        let r1 = self.lower_materializing(buffers, s1, f1, Some(d));
+        let f1 = left.peek_into(buffers, s1, d);
+        let r1 = left.lower_materializing(buffers, s1, f1, Some(d));
         if is_refusal(r1.answer) {
             return r1;
         }
         let s1 = r1.state;
-        let opcode = self.logical_jump(node);
+        let opcode = self.logical_jump();
         let e = emit(buffers.code, s1, opcode, reg_of(d), 0, 0);
         if is_refusal(e.answer) {
             return e;
         }
         let s = e.state;
         let place = value_of(e.answer);
-        let f2 = self.peek_into(buffers, s, right, d);
-        let r2 = self.lower_materializing(buffers, s, f2, Some(d));
+        let f2 = right.peek_into(buffers, s, d);
+        let r2 = right.lower_materializing(buffers, s, f2, Some(d));
         if is_refusal(r2.answer) {
             return r2;
         }
@@ -350,20 +328,20 @@ impl Arena<'_> {
 
     // If: condition, destination, then, jump, else. What the condition holds stays held.
     #[cycle(walk)]
-    fn lower_if(
-        &self,
-        buffers: &mut Buffers,
-        state: State,
-        node: u32,
-        dest: Option<u32>,
-    ) -> AnswerAndState
-        requires { (InArena self.now.nodes.now node × Aimed dest) × (node_word_of self.now.nodes.now node 0 ≡ if_kind) }
-        ensures lowers { Walks (λ t. operand_at (node_at t.nodes node)) (λ t. lower_expression free_temp t node (dest_of dest)) self.now buffers.old buffers.new state result }
+    fn lower_if(self, buffers: &mut Buffers, state: State, dest: Option<u32>) -> AnswerAndState
+        requires { Aimed dest × (word_at self 0 ≡ if_kind) }
+        ensures lowers { Walks (λ t. operand_at (node_at t.nodes self.entry.index)) (λ t. lower_expression free_temp t self.entry.index (dest_of dest)) self.entry.arena.now buffers.old buffers.new state result }
         ensures kept { Kept buffers.old buffers.new }
     {
-        let condition = self.node_word(node, 1);
-        let then_branch = self.node_word(node, 2);
-        let r = self.lower_jump_if_false(buffers, state, condition);
+        let condition = NodeRef {
+            arena: self.arena,
+            index: self.word(1),
+        };
+        let then_branch = NodeRef {
+            arena: self.arena,
+            index: self.word(2),
+        };
+        let r = condition.lower_jump_if_false(buffers, state);
         if is_refusal(r.answer) {
             return r;
         }
@@ -375,8 +353,8 @@ impl Arena<'_> {
         }
         let d = value_of(t.answer);
         let s1 = t.state;
-        let f1 = self.peek_into(buffers, s1, then_branch, d);
-        let r1 = self.lower_materializing(buffers, s1, f1, Some(d));
+        let f1 = then_branch.peek_into(buffers, s1, d);
+        let r1 = then_branch.lower_materializing(buffers, s1, f1, Some(d));
         if is_refusal(r1.answer) {
             return r1;
         }
@@ -388,11 +366,15 @@ impl Arena<'_> {
         let s = e.state;
         let jump_end = value_of(e.answer);
         patch_to_next(buffers.code, jump_if_false, s.instructions);
-        let Some(else_branch) = node_of(self.node_word(node, 3)) else {
-            return refused(s, Refusal::Else, node);
+        let Some(index) = node_of(self.word(3)) else {
+            return refused(s, Refusal::Else, self.index);
         };
-        let f2 = self.peek_into(buffers, s, else_branch, d);
-        let r2 = self.lower_materializing(buffers, s, f2, Some(d));
+        let else_branch = NodeRef {
+            arena: self.arena,
+            index,
+        };
+        let f2 = else_branch.peek_into(buffers, s, d);
+        let r2 = else_branch.lower_materializing(buffers, s, f2, Some(d));
         if is_refusal(r2.answer) {
             return r2;
         }
@@ -403,15 +385,9 @@ impl Arena<'_> {
 
     // Block: destination, then the tail or nil.
     #[cycle(walk)]
-    fn lower_block(
-        &self,
-        buffers: &mut Buffers,
-        state: State,
-        node: u32,
-        dest: Option<u32>,
-    ) -> AnswerAndState
-        requires { (InArena self.now.nodes.now node × Aimed dest) × (node_word_of self.now.nodes.now node 0 ≡ block_kind) }
-        ensures lowers { Walks (λ t. operand_at (node_at t.nodes node)) (λ t. lower_expression free_temp t node (dest_of dest)) self.now buffers.old buffers.new state result }
+    fn lower_block(self, buffers: &mut Buffers, state: State, dest: Option<u32>) -> AnswerAndState
+        requires { Aimed dest × (word_at self 0 ≡ block_kind) }
+        ensures lowers { Walks (λ t. operand_at (node_at t.nodes self.entry.index)) (λ t. lower_expression free_temp t self.entry.index (dest_of dest)) self.entry.arena.now buffers.old buffers.new state result }
         ensures kept { Kept buffers.old buffers.new }
     {
         let t = destination(state, dest);
@@ -420,7 +396,7 @@ impl Arena<'_> {
         }
         let d = value_of(t.answer);
         let s = t.state;
-        let Some(tail) = node_of(self.node_word(node, 1)) else {
+        let Some(index) = node_of(self.word(1)) else {
             let u = s;
             let r = load_constant(buffers.code, buffers.constants, u, Operand::Nil, Some(d));
             if is_refusal(r.answer) {
@@ -429,8 +405,12 @@ impl Arena<'_> {
             let s1 = r.state;
             return answered(s1, d);
         };
-        let f1 = self.peek_into(buffers, s, tail, d);
-        let r1 = self.lower_materializing(buffers, s, f1, Some(d));
+        let tail = NodeRef {
+            arena: self.arena,
+            index,
+        };
+        let f1 = tail.peek_into(buffers, s, d);
+        let r1 = tail.lower_materializing(buffers, s, f1, Some(d));
         if is_refusal(r1.answer) {
             return r1;
         }
@@ -440,20 +420,17 @@ impl Arena<'_> {
 
     // Call: the arguments; then destination, callee, Call. Gives back what the callee held.
     #[cycle(walk)]
-    fn lower_call(
-        &self,
-        buffers: &mut Buffers,
-        state: State,
-        node: u32,
-        dest: Option<u32>,
-    ) -> AnswerAndState
-        requires { (InArena self.now.nodes.now node × Aimed dest) × (node_word_of self.now.nodes.now node 0 ≡ call_kind) }
-        ensures lowers { Walks (λ t. operand_at (node_at t.nodes node)) (λ t. lower_expression free_temp t node (dest_of dest)) self.now buffers.old buffers.new state result }
+    fn lower_call(self, buffers: &mut Buffers, state: State, dest: Option<u32>) -> AnswerAndState
+        requires { Aimed dest × (word_at self 0 ≡ call_kind) }
+        ensures lowers { Walks (λ t. operand_at (node_at t.nodes self.entry.index)) (λ t. lower_expression free_temp t self.entry.index (dest_of dest)) self.entry.arena.now buffers.old buffers.new state result }
         ensures kept { Kept buffers.old buffers.new }
     {
-        let callee = self.node_word(node, 1);
-        let count = self.node_word(node, 3);
-        let a = self.arguments(buffers, state, node);
+        let callee = NodeRef {
+            arena: self.arena,
+            index: self.word(1),
+        };
+        let count = self.word(3);
+        let a = self.arguments(buffers, state);
         if is_refusal(a.answer) {
             return a;
         }
@@ -464,8 +441,8 @@ impl Arena<'_> {
         }
         let d = value_of(t.answer);
         let s1 = t.state;
-        let f1 = self.peek(buffers, s1, callee, Asked::Register);
-        let r1 = self.lower_materializing(buffers, s1, f1, None);
+        let f1 = callee.peek(buffers, s1, Asked::Register);
+        let r1 = callee.lower_materializing(buffers, s1, f1, None);
         if is_refusal(r1.answer) {
             return r1;
         }
@@ -480,19 +457,22 @@ impl Arena<'_> {
 
     // The arguments of a call: argument i into local i, and the last instruction marked.
     #[cycle(walk)]
-    fn arguments(&self, buffers: &mut Buffers, state: State, node: u32) -> AnswerAndState
-        requires { InArena self.now.nodes.now node × (node_word_of self.now.nodes.now node 0 ≡ call_kind) }
-        ensures lowers { Walks (λ t. unit_at) (λ t. lower_arguments t (lower_expression free_temp t) node (node_word_of self.now.nodes.now node 2) (node_word_of self.now.nodes.now node 3) 0) self.now buffers.old buffers.new state result }
+    fn arguments(self, buffers: &mut Buffers, state: State) -> AnswerAndState
+        requires { word_at self 0 ≡ call_kind }
+        ensures lowers { Walks (λ t. unit_at) (λ t. lower_arguments t (lower_expression free_temp t) self.entry.index (word_at self.entry 2) (word_at self.entry 3) 0) self.entry.arena.now buffers.old buffers.new state result }
         ensures kept { Kept buffers.old buffers.new }
     {
-        let first = self.node_word(node, 2) as usize;
-        let count = self.node_word(node, 3);
+        let first = self.word(2) as usize;
+        let count = self.word(3);
         let mut s = state;
         for i in 0..count {
-            let argument = word(self.list, first + (i as usize));
+            let argument = NodeRef {
+                arena: self.arena,
+                index: word(self.arena.list, first + (i as usize)),
+            };
             let d = local(i);
-            let f1 = self.peek_into(buffers, s, argument, d);
-            let r1 = self.lower_materializing(buffers, s, f1, Some(d));
+            let f1 = argument.peek_into(buffers, s, d);
+            let r1 = argument.lower_materializing(buffers, s, f1, Some(d));
             if is_refusal(r1.answer) {
                 return r1;
             }
@@ -500,7 +480,7 @@ impl Arena<'_> {
             s = s1;
             // Asked here and in `mark_argument`: this refusal names the call.
             if s.instructions == 0 {
-                return refused(s, Refusal::Unmarked, node);
+                return refused(s, Refusal::Unmarked, self.index);
             }
             let marked = mark_argument(buffers.marks, s.marks, s.instructions);
             let Ok(_) = marked.place else {
@@ -513,27 +493,24 @@ impl Arena<'_> {
 
     // Property: destination, object, key pooled. Gives back what the object held.
     #[cycle(walk)]
-    fn property(
-        &self,
-        buffers: &mut Buffers,
-        state: State,
-        node: u32,
-        dest: Option<u32>,
-    ) -> AnswerAndState
-        requires { (InArena self.now.nodes.now node × Aimed dest) × (node_word_of self.now.nodes.now node 0 ≡ property_kind) }
-        ensures lowers { Walks (λ t. operand_at (node_at t.nodes node)) (λ t. lower_expression free_temp t node (dest_of dest)) self.now buffers.old buffers.new state result }
+    fn property(self, buffers: &mut Buffers, state: State, dest: Option<u32>) -> AnswerAndState
+        requires { Aimed dest × (word_at self 0 ≡ property_kind) }
+        ensures lowers { Walks (λ t. operand_at (node_at t.nodes self.entry.index)) (λ t. lower_expression free_temp t self.entry.index (dest_of dest)) self.entry.arena.now buffers.old buffers.new state result }
         ensures kept { Kept buffers.old buffers.new }
     {
-        let object = self.node_word(node, 1);
-        let property = self.node_word(node, 2);
+        let object = NodeRef {
+            arena: self.arena,
+            index: self.word(1),
+        };
+        let property = self.word(2);
         let t = destination(state, dest);
         if is_refusal(t.answer) {
             return t;
         }
         let d = value_of(t.answer);
         let s1 = t.state;
-        let f1 = self.peek(buffers, s1, object, Asked::Register);
-        let r1 = self.lower_materializing(buffers, s1, f1, None);
+        let f1 = object.peek(buffers, s1, Asked::Register);
+        let r1 = object.lower_materializing(buffers, s1, f1, None);
         if is_refusal(r1.answer) {
             return r1;
         }
@@ -561,19 +538,13 @@ impl Arena<'_> {
 
     // Map: CreateMap, then entry by entry. What the entries hold stays held.
     #[cycle(walk)]
-    fn lower_map(
-        &self,
-        buffers: &mut Buffers,
-        state: State,
-        node: u32,
-        dest: Option<u32>,
-    ) -> AnswerAndState
-        requires { (InArena self.now.nodes.now node × Aimed dest) × (node_word_of self.now.nodes.now node 0 ≡ map_kind) }
-        ensures lowers { Walks (λ t. operand_at (node_at t.nodes node)) (λ t. lower_expression free_temp t node (dest_of dest)) self.now buffers.old buffers.new state result }
+    fn lower_map(self, buffers: &mut Buffers, state: State, dest: Option<u32>) -> AnswerAndState
+        requires { Aimed dest × (word_at self 0 ≡ map_kind) }
+        ensures lowers { Walks (λ t. operand_at (node_at t.nodes self.entry.index)) (λ t. lower_expression free_temp t self.entry.index (dest_of dest)) self.entry.arena.now buffers.old buffers.new state result }
         ensures kept { Kept buffers.old buffers.new }
     {
-        let first = self.node_word(node, 1) as usize;
-        let count = self.node_word(node, 2);
+        let first = self.word(1) as usize;
+        let count = self.word(2);
         let t = destination(state, dest);
         if is_refusal(t.answer) {
             return t;
@@ -587,13 +558,16 @@ impl Arena<'_> {
         let mut s = e.state;
         for i in 0..count {
             let at = first + 2 * (i as usize);
-            let key = word(self.list, at);
-            let value = word(self.list, at + 1);
-            let f = self.flat_entry(buffers, Counts::of(s), d, key, value);
+            let key = NodeRef {
+                arena: self.arena,
+                index: word(self.arena.list, at),
+            };
+            let value = word(self.arena.list, at + 1);
+            let f = key.flat_entry(buffers, Counts::of(s), d, value);
             let answer = f.answer;
             if is_inner(answer) {
                 let u = s;
-                let r = self.entry(buffers, u, node, d, key, value);
+                let r = self.entry(buffers, u, d, key.index, value);
                 if is_refusal(r.answer) {
                     return r;
                 }
@@ -614,70 +588,75 @@ impl Arena<'_> {
     // before its value.
     #[cycle(walk)]
     fn entry(
-        &self,
+        self,
         buffers: &mut Buffers,
         state: State,
-        node: u32,
         d: u32,
         key: u32,
         value: u32,
     ) -> AnswerAndState
-        requires { InArena self.now.nodes.now node × EntryBelow node key value }
-        ensures lowers { Walks (λ t. place_at) (λ t. lower_entry t (lower_expression free_temp t) (register_at d) key value (name_of (node_at t.nodes key))) self.now buffers.old buffers.new state result }
+        requires { EntryBelow self.index key value }
+        ensures lowers { Walks (λ t. place_at) (λ t. lower_entry t (lower_expression free_temp t) (register_at d) key value (name_of (node_at t.nodes key))) self.entry.arena.now buffers.old buffers.new state result }
         ensures kept { Kept buffers.old buffers.new }
     {
-        if self.kind(key).is_leaf() {
-            let f1 = self.peek(buffers, state, value, Asked::Operand);
-            let r1 = self.lower_materializing(buffers, state, f1, None);
+        let key = NodeRef {
+            arena: self.arena,
+            index: key,
+        };
+        let value = NodeRef {
+            arena: self.arena,
+            index: value,
+        };
+        if key.kind().is_leaf() {
+            let f1 = value.peek(buffers, state, Asked::Operand);
+            let r1 = value.lower_materializing(buffers, state, f1, None);
             if is_refusal(r1.answer) {
                 return r1;
             }
             let s1 = r1.state;
             let src = value_of(r1.answer);
-            return self.set_property(buffers, s1, d, key, value, LITERAL, src);
+            return key.set_property(buffers, s1, d, value, LITERAL, src);
         }
-        let f2 = self.peek(buffers, state, key, Asked::Operand);
-        let r2 = self.lower_materializing(buffers, state, f2, None);
+        let f2 = key.peek(buffers, state, Asked::Operand);
+        let r2 = key.lower_materializing(buffers, state, f2, None);
         if is_refusal(r2.answer) {
             return r2;
         }
         let src1 = value_of(r2.answer);
         let s2 = r2.state;
-        let f3 = self.peek(buffers, s2, value, Asked::Operand);
-        let r3 = self.lower_materializing(buffers, s2, f3, None);
+        let f3 = value.peek(buffers, s2, Asked::Operand);
+        let r3 = value.lower_materializing(buffers, s2, f3, None);
         if is_refusal(r3.answer) {
             return r3;
         }
         let src2 = value_of(r3.answer);
         let s3 = r3.state;
-        self.set_property(buffers, s3, d, key, value, src1, src2)
+        key.set_property(buffers, s3, d, value, src1, src2)
     }
 
     // The end of an entry: "Literals left over are pooled last, key before value."
     fn set_property(
-        &self,
+        self,
         buffers: &mut Buffers,
         state: State,
         d: u32,
-        key: u32,
-        value: u32,
+        value: NodeRef,
         src1: u32,
         src2: u32,
     ) -> AnswerAndState
-        requires { InArena self.now.nodes.now key × InArena self.now.nodes.now value }
-        ensures lowers { (t : Tree) (E : ℕ → Option Register → Walk Operand) → settled (store_keyed t E (register_at d) (source_at (key_operand (node_at (words self.now.nodes.now) key)) src1) (source_at (literal (node_at (words self.now.nodes.now) value)) src2)
+        ensures lowers { (t : Tree) (E : ℕ → Option Register → Walk Operand) → settled (store_keyed t E (register_at d) (source_at (key_operand (tree_node self.entry)) src1) (source_at (literal (tree_node value.entry)) src2)
             (made_of buffers.old state))
             ≡ seen t place_at (made_of buffers.new result.state) result.answer }
         ensures kept { Kept buffers.old buffers.new }
     {
         let counts = Counts::of(state);
-        let first_field = field_of(buffers.constants, counts, src1, self.key_operand(key));
+        let first_field = field_of(buffers.constants, counts, src1, self.key_operand());
         if is_refusal(first_field.answer) {
             return first_field.on(state);
         }
         let first = value_of(first_field.answer);
         let pooled = first_field.counts;
-        let second_field = field_of(buffers.constants, pooled, src2, self.literal(value));
+        let second_field = field_of(buffers.constants, pooled, src2, value.literal());
         if is_refusal(second_field.answer) {
             return second_field.on(state);
         }
@@ -696,16 +675,15 @@ impl Arena<'_> {
 
     // A node as a condition: the place of the jump that is taken where it is false. What it holds stays held.
     #[cycle(walk)]
-    fn lower_jump_if_false(&self, buffers: &mut Buffers, state: State, node: u32) -> AnswerAndState
-        requires { InArena self.now.nodes.now node }
-        ensures lowers { Walks (λ t. place_at) (λ t. lower_jump_if_false free_temp t node) self.now buffers.old buffers.new state result }
+    fn lower_jump_if_false(self, buffers: &mut Buffers, state: State) -> AnswerAndState
+        ensures lowers { Walks (λ t. place_at) (λ t. lower_jump_if_false free_temp t self.entry.index) self.entry.arena.now buffers.old buffers.new state result }
         ensures kept { Kept buffers.old buffers.new }
     {
-        let f = self.peek_jump(buffers, state, node, false);
+        let f = self.peek_jump(buffers, state, false);
         let answer = f.answer;
         if is_inner(answer) {
             let t = state;
-            return self.lower_jump_if(buffers, t, node, false);
+            return self.lower_jump_if(buffers, t, false);
         }
         f
     }
@@ -713,46 +691,42 @@ impl Arena<'_> {
     // A root as a condition: `lower_jump_if_false` and `lower_jump_if_true`, by the outcome at which the jump is taken.
     #[cycle(walk)]
     pub(crate) fn lower_jump_if(
-        &self,
+        self,
         buffers: &mut Buffers,
         state: State,
-        node: u32,
         sense: bool,
     ) -> AnswerAndState
-        requires { InArena self.now.nodes.now node }
-        ensures lowers { Walks (λ t. place_at) (λ t. jump_node t (lower_expression free_temp t) sense (lower_expression free_temp t node) (node_at t.nodes node)) self.now buffers.old buffers.new state result }
+        ensures lowers { Walks (λ t. place_at) (λ t. jump_node t (lower_expression free_temp t) sense (lower_expression free_temp t self.entry.index) (node_at t.nodes self.entry.index)) self.entry.arena.now buffers.old buffers.new state result }
         ensures kept { Kept buffers.old buffers.new }
     {
-        if self.is_compared(node) {
-            return self.fuse(buffers, state, node, sense);
+        if self.is_compared() {
+            return self.fuse(buffers, state, sense);
         }
-        self.test(buffers, state, node, sense)
+        self.test(buffers, state, sense)
     }
 
     // Whether a condition is a comparison, whose jump is fused.
     #[tactic(auto, using(crate::proofs::Reading::node_other), unfolding(crate::specs::Kinds::is_compared, syntax::specs::Ast::node_at))]
-    fn is_compared(&self, node: u32) -> bool
-        requires { InArena self.now.nodes.now node }
-        ensures { result ≡ is_compared (node_at (words self.now.nodes.now) node) }
+    fn is_compared(self) -> bool
+        ensures { result ≡ is_compared (tree_node self.entry) }
     {
-        if self.kind(node) == Kind::Binary {
-            return is_comparison(BinaryOp::of(self.node_word(node, 1)));
+        if self.kind() == Kind::Binary {
+            return is_comparison(BinaryOp::of(self.word(1)));
         }
         false
     }
 
     // A node in a register, then JumpIfFalse or JumpIfTrue. Its place is the answer.
     #[cycle(walk)]
-    fn test(&self, buffers: &mut Buffers, state: State, node: u32, sense: bool) -> AnswerAndState
-        requires { InArena self.now.nodes.now node }
-        ensures lowers { Walks (λ t. place_at) (λ t. test t (lower_expression free_temp t) sense (lower_expression free_temp t node)) self.now buffers.old buffers.new state result }
+    fn test(self, buffers: &mut Buffers, state: State, sense: bool) -> AnswerAndState
+        ensures lowers { Walks (λ t. place_at) (λ t. test t (lower_expression free_temp t) sense (lower_expression free_temp t self.entry.index)) self.entry.arena.now buffers.old buffers.new state result }
         ensures kept { Kept buffers.old buffers.new }
     {
         let t = state;
-        let r = if self.kind(node).is_literal() {
-            load_constant(buffers.code, buffers.constants, t, self.literal(node), None)
+        let r = if self.kind().is_literal() {
+            load_constant(buffers.code, buffers.constants, t, self.literal(), None)
         } else {
-            self.lower_expression(buffers, t, node, None)
+            self.lower_expression(buffers, t, None)
         };
         if is_refusal(r.answer) {
             return r;
@@ -764,23 +738,29 @@ impl Arena<'_> {
 
     // Left, right, constants pooled, one fused jump; two literals are tested like anything else. No destination is taken, nothing is given back.
     #[cycle(walk)]
-    fn fuse(&self, buffers: &mut Buffers, state: State, node: u32, sense: bool) -> AnswerAndState
-        requires { InArena self.now.nodes.now node × (is_compared (node_at (words self.now.nodes.now) node) ≡ true) }
-        ensures lowers { Walks (λ t. place_at) (λ t. jump_node t (lower_expression free_temp t) sense (lower_expression free_temp t node) (node_at t.nodes node)) self.now buffers.old buffers.new state result }
+    fn fuse(self, buffers: &mut Buffers, state: State, sense: bool) -> AnswerAndState
+        requires { is_compared (tree_node self) ≡ true }
+        ensures lowers { Walks (λ t. place_at) (λ t. jump_node t (lower_expression free_temp t) sense (lower_expression free_temp t self.entry.index) (node_at t.nodes self.entry.index)) self.entry.arena.now buffers.old buffers.new state result }
         ensures kept { Kept buffers.old buffers.new }
     {
-        let left = self.node_word(node, 2);
-        let right = self.node_word(node, 3);
+        let left = NodeRef {
+            arena: self.arena,
+            index: self.word(2),
+        };
+        let right = NodeRef {
+            arena: self.arena,
+            index: self.word(3),
+        };
         let s0 = state;
-        let f1 = self.peek(buffers, s0, left, Asked::Operand);
-        let r1 = self.lower_materializing(buffers, s0, f1, None);
+        let f1 = left.peek(buffers, s0, Asked::Operand);
+        let r1 = left.lower_materializing(buffers, s0, f1, None);
         if is_refusal(r1.answer) {
             return r1;
         }
         let src1 = value_of(r1.answer);
         let s1 = r1.state;
-        let f2 = self.peek(buffers, s1, right, Asked::Operand);
-        let r2 = self.lower_materializing(buffers, s1, f2, None);
+        let f2 = right.peek(buffers, s1, Asked::Operand);
+        let r2 = right.lower_materializing(buffers, s1, f2, None);
         if is_refusal(r2.answer) {
             return r2;
         }
@@ -788,9 +768,9 @@ impl Arena<'_> {
         let s = r2.state;
         if (src1 == LITERAL) & (src2 == LITERAL) {
             let u = s;
-            return self.test(buffers, u, node, sense);
+            return self.test(buffers, u, sense);
         }
-        let f = self.fused_jump(buffers, Counts::of(s), node, sense, src1, src2);
+        let f = self.fused_jump(buffers, Counts::of(s), sense, src1, src2);
         f.on(s)
     }
 }

@@ -1,0 +1,85 @@
+// What the walk reads of a node: its words, without a test, its kind, and its literal.
+ghost use Rattle.std.specs.Prelude.{◌≡◌, ◌&&◌, false, ◌<◌, eqb};
+ghost use Rattle.words.specs.Words.{words};
+ghost use Rattle.syntax.specs.Ast.{node_width, node_at};
+ghost use Rattle.syntax.specs.Kinds.{kind_number};
+ghost use Rattle.lowering.specs.Literals.{literal};
+ghost use Rattle.steps.specs.Answers.{literal_word, source_at, first_source, second_source};
+ghost use Rattle.codegen.specs.Walks.{word_at, tree_node};
+ghost use Rattle.codegen.specs.Kinds.{binary_kind};
+
+use crate::arena::NodeRef;
+use runtime::operand::Operand;
+use runtime::value::number;
+use steps::answer::LITERAL;
+use steps::sources::Sources;
+use syntax::ast::NODE_WORDS;
+use syntax::kind::Kind;
+use words::word;
+
+const NODE_BYTES: usize = 4 * NODE_WORDS;
+
+impl NodeRef<'_> {
+    // Word k.
+    pub(crate) fn word(self, k: usize) -> u32
+        requires { k < node_width }
+        ensures { result ≡ word_at self.entry k }
+    {
+        let at = NODE_BYTES * (self.index as usize);
+        let end = at + NODE_BYTES;
+        word(&self.arena.nodes[at..end], k)
+    }
+
+    // The kind.
+    pub(crate) fn kind(self) -> Kind
+        ensures { kind_number result ≡ word_at self.entry 0 }
+    {
+        match Kind::of(self.word(0)) {
+            Some(kind) => kind,
+            None => unreachable!(),
+        }
+    }
+
+    // The operand of a literal; nil for any other node. A chain of tests: as a `match` on the kind, deep trees take a tenth more time.
+    pub(crate) fn literal(self) -> Operand
+        ensures { result ≡ literal (tree_node self.entry) }
+    {
+        let kind = self.kind();
+        let a = self.word(1);
+        let b = self.word(2);
+        if kind == Kind::Number {
+            return Operand::Number(number(a, b));
+        }
+        if kind == Kind::String {
+            return Operand::String(a);
+        }
+        if kind == Kind::Boolean {
+            return Operand::Boolean(a != 0);
+        }
+        Operand::Nil
+    }
+
+    // The sources of an operator, by the words that the walk has for its operands, of which one at most is a literal's.
+    pub(crate) fn sources(self, src1: u32, src2: u32) -> Sources
+        requires { word_at self 0 ≡ binary_kind }
+        ensures first { first_source result ≡ source_at (literal (node_at (words self.entry.arena.now.nodes.now) (word_at self.entry 2))) src1 }
+        ensures second { eqb src1 literal_word && eqb src2 literal_word ≡ false →
+            second_source result ≡ source_at (literal (node_at (words self.entry.arena.now.nodes.now) (word_at self.entry 3))) src2 }
+    {
+        if src1 == LITERAL {
+            let left = NodeRef {
+                arena: self.arena,
+                index: self.word(2),
+            };
+            return Sources::KR(left.literal(), src2);
+        }
+        if src2 == LITERAL {
+            let right = NodeRef {
+                arena: self.arena,
+                index: self.word(3),
+            };
+            return Sources::RK(src1, right.literal());
+        }
+        Sources::RR(src1, src2)
+    }
+}
