@@ -17,8 +17,8 @@ use Rattle.codegen.specs.declared.arena.NodeRef.{NodeRef}
 use Rattle.codegen.specs.declared.arena.Buffers.{Buffers}
 
 -- the tree that is lent
-abbrev pub tree : Arena → Tree
-tree a = tree_of a.nodes.now a.list.now a.names.now
+abbrev pub arena_tree : Arena → Tree
+arena_tree a = tree_of a.nodes.now a.list.now a.names.now
 
 -- word k of a node
 abbrev pub word_at : NodeRef → ℕ → ℕ

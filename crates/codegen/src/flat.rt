@@ -18,7 +18,7 @@ ghost use Rattle.lowering.specs.Literals.{literal};
 ghost use Rattle.lowering.specs.Steps.{free_temp, load_constant};
 ghost use Rattle.lowering.specs.Lower.{binary_sources, fused_sources, name_of, lower_entry, jump_node, lower_expression, lower_materializing};
 ghost use Rattle.steps.specs.Answers.{register_at, dest_of, Aimed, any, literal_word, operand_at, source_at, place_at, settled, seen, state_of, is_inner, value_of, word_end, DestOrRefusal, WordOrRefusal};
-ghost use Rattle.codegen.specs.Walks.{tree, word_at, tree_node, has_leaves, Kept, made_of, Untouched, NothingDone, LeafWord};
+ghost use Rattle.codegen.specs.Walks.{arena_tree, word_at, tree_node, has_leaves, Kept, made_of, Untouched, NothingDone, LeafWord};
 ghost use Rattle.codegen.specs.Ready.{InArena, node_word_of};
 ghost use Rattle.codegen.specs.Kinds.{name_kind, binary_kind, key_operand, set_opcode};
 ghost use Rattle.codegen.specs.declared.flat.Asked.{Asked};
@@ -129,10 +129,10 @@ impl NodeRef<'_> {
         dest: Option<u32>,
     ) -> AnswerAndCounts
         requires { (word_at self 0 ≡ name_kind) × Aimed dest }
-        ensures step { (list : List ℕ) (rs : RegisterSet) (n : ℕ) →
-            settled (lower_expression free_temp (tree_of self.entry.arena.now.nodes.now list self.entry.arena.now.names.now) self.entry.index (dest_of dest)
+        ensures step { (rs : RegisterSet) (n : ℕ) →
+            settled (lower_expression free_temp (arena_tree self.entry.arena.now) self.entry.index (dest_of dest)
             (made_of buffers.old (state_of rs counts n)))
-            ≡ seen (tree_of self.entry.arena.now.nodes.now list self.entry.arena.now.names.now) (operand_at (tree_node self.entry)) (made_of buffers.new (state_of rs result.counts n)) result.answer }
+            ≡ seen (arena_tree self.entry.arena.now) (operand_at (tree_node self.entry)) (made_of buffers.new (state_of rs result.counts n)) result.answer }
         ensures word { WordOrRefusal result.answer }
         ensures kept { Kept buffers.old buffers.new }
     {
@@ -183,8 +183,8 @@ impl NodeRef<'_> {
     fn binary_into(self, buffers: &mut Buffers, counts: Counts, d: u32) -> AnswerAndCounts
         requires { (word_at self 0 ≡ binary_kind) × Given d }
         ensures step { (rs : RegisterSet) (n : ℕ) → has_leaves self.entry ≡ true →
-            settled (needing d (lower_expression free_temp (tree self.entry.arena.now) self.entry.index (Some (register_at d))) (made_of buffers.old (state_of rs counts n)))
-            ≡ seen (tree self.entry.arena.now) (operand_at (tree_node self.entry)) (made_of buffers.new (state_of rs result.counts n)) result.answer }
+            settled (needing d (lower_expression free_temp (arena_tree self.entry.arena.now) self.entry.index (Some (register_at d))) (made_of buffers.old (state_of rs counts n)))
+            ≡ seen (arena_tree self.entry.arena.now) (operand_at (tree_node self.entry)) (made_of buffers.new (state_of rs result.counts n)) result.answer }
         ensures inner { has_leaves self.entry ≡ false →
             (result ≡ record { counts = counts; answer = word_end + self.entry.index }) × Untouched buffers.old buffers.new }
         ensures word { has_leaves self.entry ≡ true → DestOrRefusal d result.answer }
@@ -214,8 +214,8 @@ impl NodeRef<'_> {
     ) -> AnswerAndCounts
         requires { Given d × (asked ≡ Asked.Into → d < any) }
         ensures step { (rs : RegisterSet) (n : ℕ) → is_flat self.entry.arena.now.nodes.now self.entry.index ≡ true →
-            settled (flat_node (tree self.entry.arena.now) asked d self.entry.index (made_of buffers.old (state_of rs counts n)))
-            ≡ seen (tree self.entry.arena.now) (operand_at (tree_node self.entry)) (made_of buffers.new (state_of rs result.counts n)) result.answer }
+            settled (flat_node (arena_tree self.entry.arena.now) asked d self.entry.index (made_of buffers.old (state_of rs counts n)))
+            ≡ seen (arena_tree self.entry.arena.now) (operand_at (tree_node self.entry)) (made_of buffers.new (state_of rs result.counts n)) result.answer }
         ensures inner { is_flat self.entry.arena.now.nodes.now self.entry.index ≡ false →
             (result ≡ record { counts = counts; answer = word_end + self.entry.index }) × Untouched buffers.old buffers.new }
         ensures word { is_flat self.entry.arena.now.nodes.now self.entry.index ≡ true → WordOrRefusal result.answer }
@@ -250,11 +250,11 @@ impl NodeRef<'_> {
     pub(crate) fn peek(self, buffers: &mut Buffers, state: State, asked: Asked) -> AnswerAndState
         requires { asked ≢ Asked.Into }
         ensures operand { is_inner result.answer ≡ false → asked ≡ Asked.Operand →
-            settled (lower_expression free_temp (tree self.entry.arena.now) self.entry.index None (made_of buffers.old state))
-            ≡ seen (tree self.entry.arena.now) (operand_at (tree_node self.entry)) (made_of buffers.new result.state) result.answer }
+            settled (lower_expression free_temp (arena_tree self.entry.arena.now) self.entry.index None (made_of buffers.old state))
+            ≡ seen (arena_tree self.entry.arena.now) (operand_at (tree_node self.entry)) (made_of buffers.new result.state) result.answer }
         ensures register { is_inner result.answer ≡ false → asked ≡ Asked.Register →
-            settled (lower_materializing (lower_expression free_temp (tree self.entry.arena.now) self.entry.index) None (made_of buffers.old state))
-            ≡ seen (tree self.entry.arena.now) register_at (made_of buffers.new result.state) result.answer }
+            settled (lower_materializing (lower_expression free_temp (arena_tree self.entry.arena.now) self.entry.index) None (made_of buffers.old state))
+            ≡ seen (arena_tree self.entry.arena.now) register_at (made_of buffers.new result.state) result.answer }
         ensures inner { is_inner result.answer ≡ true → NothingDone buffers.old buffers.new state result × ((value_of result.answer ≡ self.entry.index) × (binary_kind ≤ word_at self.entry 0)) }
         ensures kept { Kept buffers.old buffers.new }
     {
@@ -283,12 +283,12 @@ impl NodeRef<'_> {
     pub(crate) fn peek_into(self, buffers: &mut Buffers, state: State, d: u32) -> AnswerAndState
         requires { d < any }
         ensures done { is_inner result.answer ≡ false →
-            settled (lower_materializing (lower_expression free_temp (tree self.entry.arena.now) self.entry.index) (Some (register_at d)) (made_of buffers.old state))
-            ≡ seen (tree self.entry.arena.now) register_at (made_of buffers.new result.state) result.answer }
+            settled (lower_materializing (lower_expression free_temp (arena_tree self.entry.arena.now) self.entry.index) (Some (register_at d)) (made_of buffers.old state))
+            ≡ seen (arena_tree self.entry.arena.now) register_at (made_of buffers.new result.state) result.answer }
         ensures inner { is_inner result.answer ≡ true → NothingDone buffers.old buffers.new state result × ((value_of result.answer ≤ self.entry.index) × (binary_kind ≤ node_word_of self.entry.arena.now.nodes.now (value_of result.answer) 0)) }
         ensures same { (e : Register) (m : Made) → is_inner result.answer ≡ true →
-            lower_materializing (lower_expression free_temp (tree self.entry.arena.now) self.entry.index) (Some e) m
-            ≡ lower_materializing (lower_expression free_temp (tree self.entry.arena.now) (value_of result.answer)) (Some e) m }
+            lower_materializing (lower_expression free_temp (arena_tree self.entry.arena.now) self.entry.index) (Some e) m
+            ≡ lower_materializing (lower_expression free_temp (arena_tree self.entry.arena.now) (value_of result.answer)) (Some e) m }
         ensures kept { Kept buffers.old buffers.new }
     {
         let tail = NodeRef {
@@ -309,10 +309,10 @@ impl NodeRef<'_> {
     #[tactic(auto, using(steps::proofs::Words::refusal_start_lem))]
     fn name_tested(self, buffers: &mut Buffers, counts: Counts, sense: bool) -> AnswerAndCounts
         requires { word_at self 0 ≡ name_kind }
-        ensures step { (list : List ℕ) (rs : RegisterSet) (n : ℕ) →
-            settled (jump_node (tree_of self.entry.arena.now.nodes.now list self.entry.arena.now.names.now) (lower_expression free_temp (tree_of self.entry.arena.now.nodes.now list self.entry.arena.now.names.now)) sense (lower_expression free_temp (tree_of self.entry.arena.now.nodes.now list self.entry.arena.now.names.now) self.entry.index) (tree_node self.entry)
+        ensures step { (rs : RegisterSet) (n : ℕ) →
+            settled (jump_node (arena_tree self.entry.arena.now) (lower_expression free_temp (arena_tree self.entry.arena.now)) sense (lower_expression free_temp (arena_tree self.entry.arena.now) self.entry.index) (tree_node self.entry)
             (made_of buffers.old (state_of rs counts n)))
-            ≡ seen (tree_of self.entry.arena.now.nodes.now list self.entry.arena.now.names.now) place_at (made_of buffers.new (state_of rs result.counts n)) result.answer }
+            ≡ seen (arena_tree self.entry.arena.now) place_at (made_of buffers.new (state_of rs result.counts n)) result.answer }
         ensures word { WordOrRefusal result.answer }
         ensures kept { Kept buffers.old buffers.new }
     {
@@ -327,8 +327,8 @@ impl NodeRef<'_> {
     fn compared_leaves(self, buffers: &mut Buffers, counts: Counts, sense: bool) -> AnswerAndCounts
         requires { word_at self 0 ≡ binary_kind }
         ensures step { (rs : RegisterSet) (n : ℕ) → is_inner result.answer ≡ false →
-            settled (jump_node (tree self.entry.arena.now) (lower_expression free_temp (tree self.entry.arena.now)) sense (lower_expression free_temp (tree self.entry.arena.now) self.entry.index) (tree_node self.entry) (made_of buffers.old (state_of rs counts n)))
-            ≡ seen (tree self.entry.arena.now) place_at (made_of buffers.new (state_of rs result.counts n)) result.answer }
+            settled (jump_node (arena_tree self.entry.arena.now) (lower_expression free_temp (arena_tree self.entry.arena.now)) sense (lower_expression free_temp (arena_tree self.entry.arena.now) self.entry.index) (tree_node self.entry) (made_of buffers.old (state_of rs counts n)))
+            ≡ seen (arena_tree self.entry.arena.now) place_at (made_of buffers.new (state_of rs result.counts n)) result.answer }
         ensures inner { is_inner result.answer ≡ true →
             (result ≡ record { counts = counts; answer = word_end + self.entry.index }) × Untouched buffers.old buffers.new }
         ensures kept { Kept buffers.old buffers.new }
@@ -350,8 +350,8 @@ impl NodeRef<'_> {
     #[tactic(auto, using(steps::proofs::Words::is_inner_inner, crate::proofs::FlatNodes::no_inner))]
     fn flat_jump(self, buffers: &mut Buffers, counts: Counts, sense: bool) -> AnswerAndCounts
         ensures step { (rs : RegisterSet) (n : ℕ) → is_inner result.answer ≡ false →
-            settled (jump_node (tree self.entry.arena.now) (lower_expression free_temp (tree self.entry.arena.now)) sense (lower_expression free_temp (tree self.entry.arena.now) self.entry.index) (tree_node self.entry) (made_of buffers.old (state_of rs counts n)))
-            ≡ seen (tree self.entry.arena.now) place_at (made_of buffers.new (state_of rs result.counts n)) result.answer }
+            settled (jump_node (arena_tree self.entry.arena.now) (lower_expression free_temp (arena_tree self.entry.arena.now)) sense (lower_expression free_temp (arena_tree self.entry.arena.now) self.entry.index) (tree_node self.entry) (made_of buffers.old (state_of rs counts n)))
+            ≡ seen (arena_tree self.entry.arena.now) place_at (made_of buffers.new (state_of rs result.counts n)) result.answer }
         ensures inner { is_inner result.answer ≡ true →
             (result ≡ record { counts = counts; answer = word_end + self.entry.index }) × Untouched buffers.old buffers.new }
         ensures kept { Kept buffers.old buffers.new }
@@ -374,8 +374,8 @@ impl NodeRef<'_> {
         sense: bool,
     ) -> AnswerAndState
         ensures step { is_inner result.answer ≡ false →
-            settled (jump_node (tree self.entry.arena.now) (lower_expression free_temp (tree self.entry.arena.now)) sense (lower_expression free_temp (tree self.entry.arena.now) self.entry.index) (tree_node self.entry) (made_of buffers.old state))
-            ≡ seen (tree self.entry.arena.now) place_at (made_of buffers.new result.state) result.answer }
+            settled (jump_node (arena_tree self.entry.arena.now) (lower_expression free_temp (arena_tree self.entry.arena.now)) sense (lower_expression free_temp (arena_tree self.entry.arena.now) self.entry.index) (tree_node self.entry) (made_of buffers.old state))
+            ≡ seen (arena_tree self.entry.arena.now) place_at (made_of buffers.new result.state) result.answer }
         ensures inner { is_inner result.answer ≡ true → NothingDone buffers.old buffers.new state result }
         ensures kept { Kept buffers.old buffers.new }
     {
@@ -406,9 +406,9 @@ impl NodeRef<'_> {
         value: u32,
     ) -> AnswerAndCounts
         requires { value ≢ absent → InArena self.arena.now.nodes.now value }
-        ensures step { (list : List ℕ) (rs : RegisterSet) (n : ℕ) → is_inner result.answer ≡ false →
-            settled (lower_entry (tree_of self.entry.arena.now.nodes.now list self.entry.arena.now.names.now) (lower_expression free_temp (tree_of self.entry.arena.now.nodes.now list self.entry.arena.now.names.now)) (register_at d) self.entry.index value (name_of (tree_node self.entry)) (made_of buffers.old (state_of rs counts n)))
-            ≡ seen (tree_of self.entry.arena.now.nodes.now list self.entry.arena.now.names.now) place_at (made_of buffers.new (state_of rs result.counts n)) result.answer }
+        ensures step { (rs : RegisterSet) (n : ℕ) → is_inner result.answer ≡ false →
+            settled (lower_entry (arena_tree self.entry.arena.now) (lower_expression free_temp (arena_tree self.entry.arena.now)) (register_at d) self.entry.index value (name_of (tree_node self.entry)) (made_of buffers.old (state_of rs counts n)))
+            ≡ seen (arena_tree self.entry.arena.now) place_at (made_of buffers.new (state_of rs result.counts n)) result.answer }
         ensures inner { is_inner result.answer ≡ true →
             (result ≡ record { counts = counts; answer = word_end + self.entry.index }) × (Untouched buffers.old buffers.new × (value ≢ absent)) }
         ensures kept { Kept buffers.old buffers.new }
@@ -459,10 +459,10 @@ impl NodeRef<'_> {
         src2: u32,
     ) -> AnswerAndCounts
         requires { word_at self 0 ≡ binary_kind }
-        ensures step { (list names : List ℕ) (rs : RegisterSet) (n : ℕ) (E : ℕ → Option Register → Walk Operand) → eqb src1 literal_word && eqb src2 literal_word ≡ false →
-            settled (binary_sources (λ x. ret tt) (tree_of self.entry.arena.now.nodes.now list names) E (binary_op (word_at self.entry 1)) (word_at self.entry 2) (word_at self.entry 3) (register_at d)
+        ensures step { (rs : RegisterSet) (n : ℕ) (E : ℕ → Option Register → Walk Operand) → eqb src1 literal_word && eqb src2 literal_word ≡ false →
+            settled (binary_sources (λ x. ret tt) (arena_tree self.entry.arena.now) E (binary_op (word_at self.entry 1)) (word_at self.entry 2) (word_at self.entry 3) (register_at d)
             (source_at (literal (node_at (words self.entry.arena.now.nodes.now) (word_at self.entry 2))) src1) (source_at (literal (node_at (words self.entry.arena.now.nodes.now) (word_at self.entry 3))) src2) (made_of buffers.old (state_of rs counts n)))
-            ≡ seen (tree_of self.entry.arena.now.nodes.now list names) (λ w. Operand.Register (register_at w)) (made_of buffers.new (state_of rs result.counts n)) result.answer }
+            ≡ seen (arena_tree self.entry.arena.now) (λ w. Operand.Register (register_at w)) (made_of buffers.new (state_of rs result.counts n)) result.answer }
         ensures word { DestOrRefusal d result.answer }
         ensures kept { Kept buffers.old buffers.new }
     {
@@ -488,11 +488,11 @@ impl NodeRef<'_> {
         src2: u32,
     ) -> AnswerAndCounts
         requires { word_at self 0 ≡ binary_kind }
-        ensures step { (list names : List ℕ) (rs : RegisterSet) (n : ℕ) (E : ℕ → Option Register → Walk Operand) (own : Option Register → Walk Operand) (c : Comparison) →
+        ensures step { (rs : RegisterSet) (n : ℕ) (E : ℕ → Option Register → Walk Operand) (own : Option Register → Walk Operand) (c : Comparison) →
             eqb src1 literal_word && eqb src2 literal_word ≡ false → comparison (binary_op (word_at self.entry 1)) ≡ Some c →
-            settled (fused_sources (tree_of self.entry.arena.now.nodes.now list names) E sense own c
+            settled (fused_sources (arena_tree self.entry.arena.now) E sense own c
             (source_at (literal (node_at (words self.entry.arena.now.nodes.now) (word_at self.entry 2))) src1) (source_at (literal (node_at (words self.entry.arena.now.nodes.now) (word_at self.entry 3))) src2) (made_of buffers.old (state_of rs counts n)))
-            ≡ seen (tree_of self.entry.arena.now.nodes.now list names) place_at (made_of buffers.new (state_of rs result.counts n)) result.answer }
+            ≡ seen (arena_tree self.entry.arena.now) place_at (made_of buffers.new (state_of rs result.counts n)) result.answer }
         ensures word { WordOrRefusal result.answer }
         ensures kept { Kept buffers.old buffers.new }
     {

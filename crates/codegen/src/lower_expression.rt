@@ -18,7 +18,7 @@ ghost use Rattle.lowering.specs.Steps.{free_temp};
 ghost use Rattle.lowering.specs.Literals.{literal};
 ghost use Rattle.lowering.specs.Lower.{name_of, store_keyed, lower_arguments, lower_entry, test, jump_node, lower_expression, lower_jump_if_false};
 ghost use Rattle.steps.specs.Answers.{Aimed, register_at, dest_of, operand_at, source_at, place_at, unit_at, settled, seen, is_inner, value_of, DestOrRefusal};
-ghost use Rattle.codegen.specs.Walks.{tree, word_at, tree_node, Kept, made_of, Untouched, Walks};
+ghost use Rattle.codegen.specs.Walks.{arena_tree, word_at, tree_node, Kept, made_of, Untouched, Walks};
 ghost use Rattle.codegen.specs.Ready.{InArena, node_word_of, EntryBelow};
 ghost use Rattle.codegen.specs.Kinds.{name_kind, binary_kind, unary_kind, not_kind, and_kind, or_kind, if_kind, block_kind, call_kind, property_kind, map_kind, only_operand, key_operand, lower_literals, is_compared};
 
@@ -112,8 +112,8 @@ impl NodeRef<'_> {
     // Name: its own register, or a Move if another destination was given. Takes nothing.
     fn lower_name(self, buffers: &mut Buffers, state: State, dest: Option<u32>) -> AnswerAndState
         requires { (word_at self 0 ≡ name_kind) × Aimed dest }
-        ensures lowers { (list : List ℕ) → settled (lower_expression free_temp (tree_of self.entry.arena.now.nodes.now list self.entry.arena.now.names.now) self.entry.index (dest_of dest) (made_of buffers.old state))
-            ≡ seen (tree_of self.entry.arena.now.nodes.now list self.entry.arena.now.names.now) (operand_at (tree_node self.entry)) (made_of buffers.new result.state) result.answer }
+        ensures lowers { settled (lower_expression free_temp (arena_tree self.entry.arena.now) self.entry.index (dest_of dest) (made_of buffers.old state))
+            ≡ seen (arena_tree self.entry.arena.now) (operand_at (tree_node self.entry)) (made_of buffers.new result.state) result.answer }
         ensures kept { Kept buffers.old buffers.new }
     {
         let f = self.name_into(buffers, Counts::of(state), dest);
@@ -175,8 +175,8 @@ impl NodeRef<'_> {
     // for both ends, bushy trees took a tenth more time.
     fn lower_literals(self, buffers: &mut Buffers, state: State, d: u32) -> AnswerAndState
         requires { word_at self 0 ≡ binary_kind }
-        ensures by_index { (list names : List ℕ) → settled (lower_literals (tree_of self.entry.arena.now.nodes.now list names) (binary_op (word_at self.entry 1)) (word_at self.entry 2) (word_at self.entry 3) (register_at d) (made_of buffers.old state))
-            ≡ seen (tree_of self.entry.arena.now.nodes.now list names) (λ w. Operand.Register (register_at w)) (made_of buffers.new result.state) result.answer }
+        ensures by_index { settled (lower_literals (arena_tree self.entry.arena.now) (binary_op (word_at self.entry 1)) (word_at self.entry 2) (word_at self.entry 3) (register_at d) (made_of buffers.old state))
+            ≡ seen (arena_tree self.entry.arena.now) (λ w. Operand.Register (register_at w)) (made_of buffers.new result.state) result.answer }
         ensures word { DestOrRefusal d result.answer }
         ensures kept { Kept buffers.old buffers.new }
     {

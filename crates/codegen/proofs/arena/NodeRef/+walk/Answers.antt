@@ -6,7 +6,6 @@ use Rattle.words.specs.Words.{words}
 use Rattle.syntax.specs.declared.kind.Kind.{Kind}
 use Rattle.syntax.proofs.KindWords.{number_is_not}
 use Rattle.runtime.specs.Instruction.{words_of}
-use Rattle.lowering.specs.Tree.{tree_of}
 use Rattle.lowering.specs.Steps.{free_temp}
 use Rattle.lowering.specs.Lower.{lower_materializing, lower_node, lower_tail, test, lower_expression}
 use Rattle.lowering.proofs.Questions.Checked.{kind_word, checked_at}
@@ -14,6 +13,7 @@ use Rattle.lowering.proofs.Bound.Lowering.{jump_false_at}
 use Rattle.steps.specs.Answers.{register_at, dest_of, operand_at, place_at, unit_at, settled}
 use Rattle.steps.proofs.Words.{source_operand}
 use Rattle.steps.proofs.Chains.{then, then_by, stop_by, then_done, then_marked, stop_marked}
+use Rattle.codegen.specs.Walks.{arena_tree}
 use Rattle.codegen.specs.Ready.{Lowers}
 use Rattle.codegen.specs.Kinds.{block_kind, map_kind}
 use Rattle.codegen.proofs.Reading.{node_there, node_absent}
@@ -78,7 +78,7 @@ arguments-loop-i-preserved t c =
     let few = (call_below c.args.self.arena.now.checked _ c.requires refl c.word-first.ensures c.word-count.ensures).few in
     let checked = c.args.self.arena.now.checked in
     let argument = into_of checked _ c.peek_into-f1.ensures.inner c.peek_into-f1.ensures.same c.lower_materializing-r1.ensures.walked c.lower_materializing-r1.ensures.done c.peek_into-f1.ensures.done in
-    let tree = tree_of c.args.self.arena.now.nodes.now c.args.self.arena.now.list.now c.args.self.arena.now.names.now in (
+    let tree = arena_tree c.args.self.arena.now in (
       c.loop-i.invariant.0 ∙ then_argument _ _ _ _ _ _ c.loop-i-test.true (omega (arith, c.loop-i-test.true, few)) c.word.ensures c.local-d.ensures
           (then_into _ _ _ _ _ _ _ argument (sym c.is_refusal.ensures ∙ c.if-is_refusal.false)
           (then_marked tree _ _ _ _ _ _ c.if-s-eq0.false (marked _ _ _ c.if-s-eq0.false c.mark_argument-marked.ensures.words) c.in-Ok.is refl)),
@@ -182,7 +182,7 @@ fuse-fused_jump-f-requires t c = compared_kind _ _ c.requires
 
 pub fuse-returns-clause-lowers : goal.fuse-returns-clause-lowers
 fuse-returns-clause-lowers t c =
-    let tree = tree_of c.args.self.arena.now.nodes.now c.args.self.arena.now.list.now c.args.self.arena.now.names.now in
+    let tree = arena_tree c.args.self.arena.now in
     let checked = c.args.self.arena.now.checked in
     let left = operand_of checked c.peek-f1.ensures.inner c.lower_materializing-r1.ensures.walked c.lower_materializing-r1.ensures.done (λ h. c.peek-f1.ensures.operand h refl) in
     let right = operand_of checked c.peek-f2.ensures.inner c.lower_materializing-r2.ensures.walked c.lower_materializing-r2.ensures.done (λ h. c.peek-f2.ensures.operand h refl) in
@@ -191,8 +191,8 @@ fuse-returns-clause-lowers t c =
     (λ k e. then_by _ _ _ _ _ _ left c.is_refusal.ensures c.if-is_refusal.false c.value_of-src1.ensures
     (then_by _ _ _ _ _ _ right c.is_refusal-2.ensures c.if-is_refusal-2.false c.value_of-src2.ensures
     (two_sources _ _ c.requires c.word.ensures c.word-2.ensures _ _ _ _ k _ _
-    (rw c.of.ensures at (c.fused_jump-f.ensures.step c.args.self.arena.now.list.now c.args.self.arena.now.names.now c.lower_materializing-r2.result.state.registers c.lower_materializing-r2.result.state.marks
-    (lower_expression free_temp tree) (lower_expression free_temp tree c.args.self.index) k c.if-src1-src2.false e))))))
+    (rw c.of.ensures at (c.fused_jump-f.ensures.step c.lower_materializing-r2.result.state.registers c.lower_materializing-r2.result.state.marks
+    (lower_expression free_temp (arena_tree c.args.self.arena.now)) (lower_expression free_temp (arena_tree c.args.self.arena.now) c.args.self.index) k c.if-src1-src2.false e))))))
 
 -- ---- `logical`: the left side into the destination, the jump, the right side into the same
 
@@ -217,7 +217,7 @@ logical-lower_materializing-r1-requires t c =
 pub logical-returns-then-is_refusal-2-clause-lowers : goal.logical-returns-then-is_refusal-2-clause-lowers
 unfolding lower_logical
 logical-returns-then-is_refusal-2-clause-lowers t c =
-    let tree = tree_of c.args.self.arena.now.nodes.now c.args.self.arena.now.list.now c.args.self.arena.now.names.now in
+    let tree = arena_tree c.args.self.arena.now in
     let checked = c.args.self.arena.now.checked in
     let left = into_of checked _ c.peek_into-f1.ensures.inner c.peek_into-f1.ensures.same c.lower_materializing-r1.ensures.walked c.lower_materializing-r1.ensures.done c.peek_into-f1.ensures.done in
     logical_of checked _ c.word.ensures c.word-2.ensures c.requires.1 _ _
@@ -227,7 +227,7 @@ logical-returns-then-is_refusal-2-clause-lowers t c =
 pub logical-returns-then-is_refusal-3-clause-lowers : goal.logical-returns-then-is_refusal-3-clause-lowers
 unfolding lower_logical
 logical-returns-then-is_refusal-3-clause-lowers t c =
-    let tree = tree_of c.args.self.arena.now.nodes.now c.args.self.arena.now.list.now c.args.self.arena.now.names.now in
+    let tree = arena_tree c.args.self.arena.now in
     let checked = c.args.self.arena.now.checked in
     let left = into_of checked _ c.peek_into-f1.ensures.inner c.peek_into-f1.ensures.same c.lower_materializing-r1.ensures.walked c.lower_materializing-r1.ensures.done c.peek_into-f1.ensures.done in
     let told = jump_words _ _ (c.logical_jump-opcode.ensures.and, c.logical_jump-opcode.ensures.or) c.requires.1 c.reg_of.ensures in
@@ -250,7 +250,7 @@ logical-lower_materializing-r2-requires t c =
 pub logical-returns-then-is_refusal-4-clause-lowers : goal.logical-returns-then-is_refusal-4-clause-lowers
 unfolding lower_logical
 logical-returns-then-is_refusal-4-clause-lowers t c =
-    let tree = tree_of c.args.self.arena.now.nodes.now c.args.self.arena.now.list.now c.args.self.arena.now.names.now in
+    let tree = arena_tree c.args.self.arena.now in
     let checked = c.args.self.arena.now.checked in
     let left = into_of checked _ c.peek_into-f1.ensures.inner c.peek_into-f1.ensures.same c.lower_materializing-r1.ensures.walked c.lower_materializing-r1.ensures.done c.peek_into-f1.ensures.done in
     let right = into_of checked _ c.peek_into-f2.ensures.inner c.peek_into-f2.ensures.same c.lower_materializing-r2.ensures.walked c.lower_materializing-r2.ensures.done c.peek_into-f2.ensures.done in
@@ -264,7 +264,7 @@ logical-returns-then-is_refusal-4-clause-lowers t c =
 pub logical-returns-clause-lowers : goal.logical-returns-clause-lowers
 unfolding lower_logical settled
 logical-returns-clause-lowers t c =
-    let tree = tree_of c.args.self.arena.now.nodes.now c.args.self.arena.now.list.now c.args.self.arena.now.names.now in
+    let tree = arena_tree c.args.self.arena.now in
     let checked = c.args.self.arena.now.checked in
     let left = into_of checked _ c.peek_into-f1.ensures.inner c.peek_into-f1.ensures.same c.lower_materializing-r1.ensures.walked c.lower_materializing-r1.ensures.done c.peek_into-f1.ensures.done in
     let right = into_of checked _ c.peek_into-f2.ensures.inner c.peek_into-f2.ensures.same c.lower_materializing-r2.ensures.walked c.lower_materializing-r2.ensures.done c.peek_into-f2.ensures.done in
@@ -292,7 +292,7 @@ lower_binary-lower_materializing-r1-requires t c = walk_in _ None _ (operator_be
 
 pub lower_binary-returns-then-is_refusal-2-clause-lowers : goal.lower_binary-returns-then-is_refusal-2-clause-lowers
 lower_binary-returns-then-is_refusal-2-clause-lowers t c =
-    let tree = tree_of c.args.self.arena.now.nodes.now c.args.self.arena.now.list.now c.args.self.arena.now.names.now in
+    let tree = arena_tree c.args.self.arena.now in
     let checked = c.args.self.arena.now.checked in
     let left = operand_of checked c.peek-f1.ensures.inner c.lower_materializing-r1.ensures.walked c.lower_materializing-r1.ensures.done (λ h. c.peek-f1.ensures.operand h refl) in
     operator_of checked _ c.requires.1 c.word.ensures c.word-2.ensures _ _
@@ -304,7 +304,7 @@ lower_binary-lower_materializing-r2-requires t c = walk_in _ None _ (operator_be
 
 pub lower_binary-returns-then-is_refusal-3-clause-lowers : goal.lower_binary-returns-then-is_refusal-3-clause-lowers
 lower_binary-returns-then-is_refusal-3-clause-lowers t c =
-    let tree = tree_of c.args.self.arena.now.nodes.now c.args.self.arena.now.list.now c.args.self.arena.now.names.now in
+    let tree = arena_tree c.args.self.arena.now in
     let checked = c.args.self.arena.now.checked in
     let left = operand_of checked c.peek-f1.ensures.inner c.lower_materializing-r1.ensures.walked c.lower_materializing-r1.ensures.done (λ h. c.peek-f1.ensures.operand h refl) in
     let right = operand_of checked c.peek-f2.ensures.inner c.lower_materializing-r2.ensures.walked c.lower_materializing-r2.ensures.done (λ h. c.peek-f2.ensures.operand h refl) in
@@ -315,7 +315,7 @@ lower_binary-returns-then-is_refusal-3-clause-lowers t c =
 
 pub lower_binary-returns-then-src1-src2-clause-lowers : goal.lower_binary-returns-then-src1-src2-clause-lowers
 lower_binary-returns-then-src1-src2-clause-lowers t c =
-    let tree = tree_of c.args.self.arena.now.nodes.now c.args.self.arena.now.list.now c.args.self.arena.now.names.now in
+    let tree = arena_tree c.args.self.arena.now in
     let checked = c.args.self.arena.now.checked in
     let left = operand_of checked c.peek-f1.ensures.inner c.lower_materializing-r1.ensures.walked c.lower_materializing-r1.ensures.done (λ h. c.peek-f1.ensures.operand h refl) in
     let right = operand_of checked c.peek-f2.ensures.inner c.lower_materializing-r2.ensures.walked c.lower_materializing-r2.ensures.done (λ h. c.peek-f2.ensures.operand h refl) in
@@ -328,15 +328,15 @@ lower_binary-returns-then-src1-src2-clause-lowers t c =
     (then_by tree _ (operand_at _) _ _ _ left c.is_refusal-2.ensures c.if-is_refusal-2.false c.value_of-src1.ensures
     (then_by tree _ (operand_at _) _ _ _ right c.is_refusal-3.ensures c.if-is_refusal-3.false c.value_of-src2.ensures
     (then_literals tree _ c.word.ensures c.word-2.ensures _ _ _ _ both left_literal right_literal
-    (c.lower_literals.ensures.by_index _ _ ∙ given_operand _ _ _ _ _ (inr few) c.lower_literals.ensures.word)))))
+    (c.lower_literals.ensures.by_index ∙ given_operand _ _ _ _ _ (inr few) c.lower_literals.ensures.word)))))
 
 pub lower_binary-returns-then-is_refusal-4-clause-lowers : goal.lower_binary-returns-then-is_refusal-4-clause-lowers
 lower_binary-returns-then-is_refusal-4-clause-lowers t c =
-    let tree = tree_of c.args.self.arena.now.nodes.now c.args.self.arena.now.list.now c.args.self.arena.now.names.now in
+    let tree = arena_tree c.args.self.arena.now in
     let checked = c.args.self.arena.now.checked in
     let left = operand_of checked c.peek-f1.ensures.inner c.lower_materializing-r1.ensures.walked c.lower_materializing-r1.ensures.done (λ h. c.peek-f1.ensures.operand h refl) in
     let right = operand_of checked c.peek-f2.ensures.inner c.lower_materializing-r2.ensures.walked c.lower_materializing-r2.ensures.done (λ h. c.peek-f2.ensures.operand h refl) in
-    let operated = counted_on _ _ _ _ _ c.on-e.ensures (rw c.of.ensures at (c.binary_operation-f.ensures.step c.args.self.arena.now.list.now c.args.self.arena.now.names.now c.lower_materializing-r2.result.state.registers c.lower_materializing-r2.result.state.marks
+    let operated = counted_on _ _ _ _ _ c.on-e.ensures (rw c.of.ensures at (c.binary_operation-f.ensures.step c.lower_materializing-r2.result.state.registers c.lower_materializing-r2.result.state.marks
     (lower_expression free_temp tree) c.if-src1-src2.false)) in
     operator_of checked _ c.requires.1 c.word.ensures c.word-2.ensures _ _
     (then_by tree _ register_at _ _ _ (c.destination-t.ensures.step tree _ _ _) c.is_refusal.ensures c.if-is_refusal.false c.value_of-d.ensures
@@ -348,12 +348,12 @@ lower_binary-returns-then-is_refusal-4-clause-lowers t c =
 pub lower_binary-returns-clause-lowers : goal.lower_binary-returns-clause-lowers
 unfolding settled
 lower_binary-returns-clause-lowers t c =
-    let tree = tree_of c.args.self.arena.now.nodes.now c.args.self.arena.now.list.now c.args.self.arena.now.names.now in
+    let tree = arena_tree c.args.self.arena.now in
     let checked = c.args.self.arena.now.checked in
     let left = operand_of checked c.peek-f1.ensures.inner c.lower_materializing-r1.ensures.walked c.lower_materializing-r1.ensures.done (λ h. c.peek-f1.ensures.operand h refl) in
     let right = operand_of checked c.peek-f2.ensures.inner c.lower_materializing-r2.ensures.walked c.lower_materializing-r2.ensures.done (λ h. c.peek-f2.ensures.operand h refl) in
     let few = register_word _ c.is_refusal.ensures c.if-is_refusal.false c.value_of-d.ensures (c.destination-t.ensures.word c.requires.0) in
-    let operated = counted_on _ _ _ _ _ c.on-e.ensures (rw c.of.ensures at (c.binary_operation-f.ensures.step c.args.self.arena.now.list.now c.args.self.arena.now.names.now c.lower_materializing-r2.result.state.registers c.lower_materializing-r2.result.state.marks
+    let operated = counted_on _ _ _ _ _ c.on-e.ensures (rw c.of.ensures at (c.binary_operation-f.ensures.step c.lower_materializing-r2.result.state.registers c.lower_materializing-r2.result.state.marks
     (lower_expression free_temp tree) c.if-src1-src2.false)) in
     by_answer _ _ _ _ _ _ (c.answered.ensures.state, c.answered.ensures.answer)
     (operator_of checked _ c.requires.1 c.word.ensures c.word-2.ensures _ _
@@ -378,7 +378,7 @@ lower_block-returns-then-is_refusal-clause-lowers t c =
 pub lower_block-returns-then-is_refusal-2-clause-lowers : goal.lower_block-returns-then-is_refusal-2-clause-lowers
 unfolding lower_node lower_tail
 lower_block-returns-then-is_refusal-2-clause-lowers t c =
-    let tree = tree_of c.args.self.arena.now.nodes.now c.args.self.arena.now.list.now c.args.self.arena.now.names.now in
+    let tree = arena_tree c.args.self.arena.now in
     let checked = c.args.self.arena.now.checked in
     let absent_tail = eq-eqb _ _ (rw c.word.ensures at (node_absent c.node_of.ensures c.in_default.is)) in
     expression_of checked _ block_kind c.requires.1 _ _
@@ -388,7 +388,7 @@ lower_block-returns-then-is_refusal-2-clause-lowers t c =
 pub lower_block-returns-in_default-clause-lowers : goal.lower_block-returns-in_default-clause-lowers
 unfolding lower_node lower_tail settled
 lower_block-returns-in_default-clause-lowers t c =
-    let tree = tree_of c.args.self.arena.now.nodes.now c.args.self.arena.now.list.now c.args.self.arena.now.names.now in
+    let tree = arena_tree c.args.self.arena.now in
     let checked = c.args.self.arena.now.checked in
     let few = register_word _ c.is_refusal.ensures c.if-is_refusal.false c.value_of-d.ensures (c.destination-t.ensures.word c.requires.0) in
     let absent_tail = eq-eqb _ _ (rw c.word.ensures at (node_absent c.node_of.ensures c.in_default.is)) in
@@ -425,7 +425,7 @@ unfolding lower_node lower_tail
 lower_block-returns-then-is_refusal-3-clause-lowers t c =
     let there = node_there c.node_of.ensures c.in-Some.is in
     let tail_read = rw c.word.ensures at there.0 in
-    let tree = tree_of c.args.self.arena.now.nodes.now c.args.self.arena.now.list.now c.args.self.arena.now.names.now in
+    let tree = arena_tree c.args.self.arena.now in
     let checked = c.args.self.arena.now.checked in
     let some_tail = ne_eqb _ _ (rw c.word.ensures at there.1) in
     let tried = c.peek_into-f1.ensures in
@@ -440,7 +440,7 @@ unfolding lower_node lower_tail settled
 lower_block-returns-clause-lowers t c =
     let there = node_there c.node_of.ensures c.in-Some.is in
     let tail_read = rw c.word.ensures at there.0 in
-    let tree = tree_of c.args.self.arena.now.nodes.now c.args.self.arena.now.list.now c.args.self.arena.now.names.now in
+    let tree = arena_tree c.args.self.arena.now in
     let checked = c.args.self.arena.now.checked in
     let few = register_word _ c.is_refusal.ensures c.if-is_refusal.false c.value_of-d.ensures (c.destination-t.ensures.word c.requires.0) in
     let some_tail = ne_eqb _ _ (rw c.word.ensures at there.1) in
@@ -465,7 +465,7 @@ lower_call-returns-then-is_refusal-clause-lowers t c =
 pub lower_call-returns-then-is_refusal-2-clause-lowers : goal.lower_call-returns-then-is_refusal-2-clause-lowers
 unfolding lower_node
 lower_call-returns-then-is_refusal-2-clause-lowers t c =
-    let tree = tree_of c.args.self.arena.now.nodes.now c.args.self.arena.now.list.now c.args.self.arena.now.names.now in
+    let tree = arena_tree c.args.self.arena.now in
     let checked = c.args.self.arena.now.checked in
     call_of checked _ c.requires.1 c.word.ensures _ _
     (then_by tree _ unit_at _ _ _ c.arguments-a.ensures.lowers c.is_refusal.ensures c.if-is_refusal.false refl
@@ -480,7 +480,7 @@ lower_call-lower_materializing-r1-requires t c = walk_in _ None _ (call_below c.
 pub lower_call-returns-then-is_refusal-3-clause-lowers : goal.lower_call-returns-then-is_refusal-3-clause-lowers
 unfolding lower_node
 lower_call-returns-then-is_refusal-3-clause-lowers t c =
-    let tree = tree_of c.args.self.arena.now.nodes.now c.args.self.arena.now.list.now c.args.self.arena.now.names.now in
+    let tree = arena_tree c.args.self.arena.now in
     let checked = c.args.self.arena.now.checked in
     let callee = register_of checked c.peek-f1.ensures.inner c.lower_materializing-r1.ensures.walked c.lower_materializing-r1.ensures.done (λ h. c.peek-f1.ensures.register h refl) in
     call_of checked _ c.requires.1 c.word.ensures _ _
@@ -491,7 +491,7 @@ lower_call-returns-then-is_refusal-3-clause-lowers t c =
 pub lower_call-returns-then-is_refusal-4-clause-lowers : goal.lower_call-returns-then-is_refusal-4-clause-lowers
 unfolding lower_node words_of
 lower_call-returns-then-is_refusal-4-clause-lowers t c =
-    let tree = tree_of c.args.self.arena.now.nodes.now c.args.self.arena.now.list.now c.args.self.arena.now.names.now in
+    let tree = arena_tree c.args.self.arena.now in
     let checked = c.args.self.arena.now.checked in
     let callee = register_of checked c.peek-f1.ensures.inner c.lower_materializing-r1.ensures.walked c.lower_materializing-r1.ensures.done (λ h. c.peek-f1.ensures.register h refl) in
     let told = same_fields _ c.reg_of.ensures c.reg_of-2.ensures c.word-count.ensures in
@@ -504,7 +504,7 @@ lower_call-returns-then-is_refusal-4-clause-lowers t c =
 pub lower_call-returns-clause-lowers : goal.lower_call-returns-clause-lowers
 unfolding lower_node words_of settled
 lower_call-returns-clause-lowers t c =
-    let tree = tree_of c.args.self.arena.now.nodes.now c.args.self.arena.now.list.now c.args.self.arena.now.names.now in
+    let tree = arena_tree c.args.self.arena.now in
     let checked = c.args.self.arena.now.checked in
     let callee = register_of checked c.peek-f1.ensures.inner c.lower_materializing-r1.ensures.walked c.lower_materializing-r1.ensures.done (λ h. c.peek-f1.ensures.register h refl) in
     let few = register_word _ c.is_refusal-2.ensures c.if-is_refusal-2.false c.value_of-d.ensures (c.destination-t.ensures.word c.requires.0) in
@@ -555,7 +555,7 @@ lower_if-returns-then-is_refusal-clause-lowers t c =
 pub lower_if-returns-then-is_refusal-2-clause-lowers : goal.lower_if-returns-then-is_refusal-2-clause-lowers
 unfolding lower_node
 lower_if-returns-then-is_refusal-2-clause-lowers t c =
-    let tree = tree_of c.args.self.arena.now.nodes.now c.args.self.arena.now.list.now c.args.self.arena.now.names.now in
+    let tree = arena_tree c.args.self.arena.now in
     let checked = c.args.self.arena.now.checked in
     if_of checked _ c.requires.1 c.word.ensures c.word-2.ensures refl _ _
     (then_by tree _ place_at _ _ _ c.lower_jump_if_false-r.ensures.lowers c.is_refusal.ensures c.if-is_refusal.false c.value_of-jump_if_false.ensures
@@ -575,7 +575,7 @@ lower_if-lower_materializing-r1-requires t c =
 pub lower_if-returns-then-is_refusal-3-clause-lowers : goal.lower_if-returns-then-is_refusal-3-clause-lowers
 unfolding lower_node
 lower_if-returns-then-is_refusal-3-clause-lowers t c =
-    let tree = tree_of c.args.self.arena.now.nodes.now c.args.self.arena.now.list.now c.args.self.arena.now.names.now in
+    let tree = arena_tree c.args.self.arena.now in
     let checked = c.args.self.arena.now.checked in
     let then_value = into_of checked _ c.peek_into-f1.ensures.inner c.peek_into-f1.ensures.same c.lower_materializing-r1.ensures.walked c.lower_materializing-r1.ensures.done c.peek_into-f1.ensures.done in
     if_of checked _ c.requires.1 c.word.ensures c.word-2.ensures refl _ _
@@ -586,7 +586,7 @@ lower_if-returns-then-is_refusal-3-clause-lowers t c =
 pub lower_if-returns-then-is_refusal-4-clause-lowers : goal.lower_if-returns-then-is_refusal-4-clause-lowers
 unfolding lower_node words_of
 lower_if-returns-then-is_refusal-4-clause-lowers t c =
-    let tree = tree_of c.args.self.arena.now.nodes.now c.args.self.arena.now.list.now c.args.self.arena.now.names.now in
+    let tree = arena_tree c.args.self.arena.now in
     let checked = c.args.self.arena.now.checked in
     let then_value = into_of checked _ c.peek_into-f1.ensures.inner c.peek_into-f1.ensures.same c.lower_materializing-r1.ensures.walked c.lower_materializing-r1.ensures.done c.peek_into-f1.ensures.done in
     if_of checked _ c.requires.1 c.word.ensures c.word-2.ensures refl _ _
@@ -598,7 +598,7 @@ lower_if-returns-then-is_refusal-4-clause-lowers t c =
 pub lower_if-returns-in_default-clause-lowers : goal.lower_if-returns-in_default-clause-lowers
 unfolding lower_node words_of
 lower_if-returns-in_default-clause-lowers t c =
-    let tree = tree_of c.args.self.arena.now.nodes.now c.args.self.arena.now.list.now c.args.self.arena.now.names.now in
+    let tree = arena_tree c.args.self.arena.now in
     let checked = c.args.self.arena.now.checked in
     let then_value = into_of checked _ c.peek_into-f1.ensures.inner c.peek_into-f1.ensures.same c.lower_materializing-r1.ensures.walked c.lower_materializing-r1.ensures.done c.peek_into-f1.ensures.done in
     by_answer _ _ _ _ _ _ (c.refused.ensures.state, c.refused.ensures.answer)
@@ -638,7 +638,7 @@ lower_if-returns-then-is_refusal-5-clause-lowers t c =
     let there = node_there c.node_of.ensures c.in-Some.is in
     let else_read = rw c.word-3.ensures at there.0 in
     let some = rw (← there.0) at there.1 in
-    let tree = tree_of c.args.self.arena.now.nodes.now c.args.self.arena.now.list.now c.args.self.arena.now.names.now in
+    let tree = arena_tree c.args.self.arena.now in
     let checked = c.args.self.arena.now.checked in
     let then_value = into_of checked _ c.peek_into-f1.ensures.inner c.peek_into-f1.ensures.same c.lower_materializing-r1.ensures.walked c.lower_materializing-r1.ensures.done c.peek_into-f1.ensures.done in
     let else_value = into_of checked _ c.peek_into-f2.ensures.inner c.peek_into-f2.ensures.same c.lower_materializing-r2.ensures.walked c.lower_materializing-r2.ensures.done c.peek_into-f2.ensures.done in
@@ -657,7 +657,7 @@ lower_if-returns-clause-lowers t c =
     let there = node_there c.node_of.ensures c.in-Some.is in
     let else_read = rw c.word-3.ensures at there.0 in
     let some = rw (← there.0) at there.1 in
-    let tree = tree_of c.args.self.arena.now.nodes.now c.args.self.arena.now.list.now c.args.self.arena.now.names.now in
+    let tree = arena_tree c.args.self.arena.now in
     let checked = c.args.self.arena.now.checked in
     let then_value = into_of checked _ c.peek_into-f1.ensures.inner c.peek_into-f1.ensures.same c.lower_materializing-r1.ensures.walked c.lower_materializing-r1.ensures.done c.peek_into-f1.ensures.done in
     let else_value = into_of checked _ c.peek_into-f2.ensures.inner c.peek_into-f2.ensures.same c.lower_materializing-r2.ensures.walked c.lower_materializing-r2.ensures.done c.peek_into-f2.ensures.done in
@@ -701,7 +701,7 @@ lower_map-returns-then-is_refusal-clause-lowers t c =
 pub lower_map-returns-then-is_refusal-2-clause-lowers : goal.lower_map-returns-then-is_refusal-2-clause-lowers
 unfolding lower_node words_of
 lower_map-returns-then-is_refusal-2-clause-lowers t c =
-    let tree = tree_of c.args.self.arena.now.nodes.now c.args.self.arena.now.list.now c.args.self.arena.now.names.now in
+    let tree = arena_tree c.args.self.arena.now in
     let checked = c.args.self.arena.now.checked in
     expression_of checked _ map_kind c.requires.1 _ _
     (then_by tree _ register_at _ _ _ (c.destination-t.ensures.step tree _ _ _) c.is_refusal.ensures c.if-is_refusal.false c.value_of-d.ensures
@@ -733,7 +733,7 @@ lower_map-entry-r-requires t c =
 pub lower_map-returns-then-is_refusal-3-clause-lowers : goal.lower_map-returns-then-is_refusal-3-clause-lowers
 unfolding lower_node words_of
 lower_map-returns-then-is_refusal-3-clause-lowers t c =
-    let tree = tree_of c.args.self.arena.now.nodes.now c.args.self.arena.now.list.now c.args.self.arena.now.names.now in
+    let tree = arena_tree c.args.self.arena.now in
     let checked = c.args.self.arena.now.checked in
     let left = c.flat_entry-f.ensures.inner (sym c.is_inner.ensures ∙ c.if-is_inner.true) in
     let walked = rw (left.1.0.0, left.1.0.1.0, left.1.0.1.1) at c.entry-r.ensures.lowers in
@@ -748,9 +748,9 @@ lower_map-returns-then-is_refusal-3-clause-lowers t c =
 pub lower_map-returns-then-is_refusal-4-clause-lowers : goal.lower_map-returns-then-is_refusal-4-clause-lowers
 unfolding lower_node words_of
 lower_map-returns-then-is_refusal-4-clause-lowers t c =
-    let tree = tree_of c.args.self.arena.now.nodes.now c.args.self.arena.now.list.now c.args.self.arena.now.names.now in
+    let tree = arena_tree c.args.self.arena.now in
     let checked = c.args.self.arena.now.checked in
-    let done = rw c.of.ensures at (c.flat_entry-f.ensures.step c.args.self.arena.now.list.now c.loop-i.s.registers c.loop-i.s.marks (sym c.is_inner.ensures ∙ c.if-is_inner.false)) in
+    let done = rw c.of.ensures at (c.flat_entry-f.ensures.step c.loop-i.s.registers c.loop-i.s.marks (sym c.is_inner.ensures ∙ c.if-is_inner.false)) in
     expression_of checked _ map_kind c.requires.1 _ _
     (then_by tree _ register_at _ _ _ (c.destination-t.ensures.step tree _ _ _) c.is_refusal.ensures c.if-is_refusal.false c.value_of-d.ensures
     (then tree _ place_at _ _ _ (c.emit-e.ensures.step tree _ _ _ (same_fields _ c.reg_of.ensures refl refl)) (sym c.is_refusal-2.ensures ∙ c.if-is_refusal-2.false)
@@ -771,7 +771,7 @@ lower_map-loop-i-preserved t c = (
           w.is_refusal-then-is_inner.ensures w.if-is_refusal-3.false)
       | lower_map-else-is_inner+else-is_refusal-4 w ↦
           at_next _ _ _ _ _ _ (ap (λ b. b.code.now) w.buffers-is) (ap (λ b. b.constants.now) w.buffers-is) (ap (λ b. b.marks.now) w.buffers-is) w.s-is
-          (entries_again _ _ _ _ _ _ _ _ c.loop-i.invariant.1.0 _ _ _ _ c.loop-i-test.true c.word.ensures c.word-value.ensures (rw c.of.ensures at (c.flat_entry-f.ensures.step c.args.self.arena.now.list.now c.loop-i.s.registers c.loop-i.s.marks (sym c.is_inner.ensures ∙ w.if-is_inner.false)))
+          (entries_again _ _ _ _ _ _ _ _ c.loop-i.invariant.1.0 _ _ _ _ c.loop-i-test.true c.word.ensures c.word-value.ensures (rw c.of.ensures at (c.flat_entry-f.ensures.step c.loop-i.s.registers c.loop-i.s.marks (sym c.is_inner.ensures ∙ w.if-is_inner.false)))
           w.is_refusal-else-is_inner.ensures w.if-is_refusal-4.false)
     ],
     search rules,
@@ -781,7 +781,7 @@ lower_map-loop-i-preserved t c = (
 pub lower_map-returns-clause-lowers : goal.lower_map-returns-clause-lowers
 unfolding lower_node words_of settled
 lower_map-returns-clause-lowers t c =
-    let tree = tree_of c.args.self.arena.now.nodes.now c.args.self.arena.now.list.now c.args.self.arena.now.names.now in
+    let tree = arena_tree c.args.self.arena.now in
     let checked = c.args.self.arena.now.checked in
     let few = register_word _ c.is_refusal.ensures c.if-is_refusal.false c.value_of-d.ensures (c.destination-t.ensures.word c.requires.0) in
     rw (c.answered.ensures.state, c.answered.ensures.answer)
@@ -807,7 +807,7 @@ lower_unary-lower_materializing-r1-requires t c = walk_in _ None _ (single_below
 
 pub lower_unary-returns-then-is_refusal-2-clause-lowers : goal.lower_unary-returns-then-is_refusal-2-clause-lowers
 lower_unary-returns-then-is_refusal-2-clause-lowers t c =
-    let tree = tree_of c.args.self.arena.now.nodes.now c.args.self.arena.now.list.now c.args.self.arena.now.names.now in
+    let tree = arena_tree c.args.self.arena.now in
     let checked = c.args.self.arena.now.checked in
     let operand = register_of checked c.peek-f1.ensures.inner c.lower_materializing-r1.ensures.walked c.lower_materializing-r1.ensures.done (λ h. c.peek-f1.ensures.register h refl) in
     single_of _ _ c.only_operand.ensures _ _ c.args.self.arena.now.checked c.requires.1 _ _
@@ -817,7 +817,7 @@ lower_unary-returns-then-is_refusal-2-clause-lowers t c =
 pub lower_unary-returns-then-is_refusal-3-clause-lowers : goal.lower_unary-returns-then-is_refusal-3-clause-lowers
 unfolding operated
 lower_unary-returns-then-is_refusal-3-clause-lowers t c =
-    let tree = tree_of c.args.self.arena.now.nodes.now c.args.self.arena.now.list.now c.args.self.arena.now.names.now in
+    let tree = arena_tree c.args.self.arena.now in
     let checked = c.args.self.arena.now.checked in
     let operand = register_of checked c.peek-f1.ensures.inner c.lower_materializing-r1.ensures.walked c.lower_materializing-r1.ensures.done (λ h. c.peek-f1.ensures.register h refl) in
     let told = single_words _ _ _ c.only_opcode-opcode.ensures.unary c.only_opcode-opcode.ensures.not _ _ ∙ same_fields _ c.reg_of.ensures c.reg_of-2.ensures refl in
@@ -829,7 +829,7 @@ lower_unary-returns-then-is_refusal-3-clause-lowers t c =
 pub lower_unary-returns-clause-lowers : goal.lower_unary-returns-clause-lowers
 unfolding operated settled
 lower_unary-returns-clause-lowers t c =
-    let tree = tree_of c.args.self.arena.now.nodes.now c.args.self.arena.now.list.now c.args.self.arena.now.names.now in
+    let tree = arena_tree c.args.self.arena.now in
     let checked = c.args.self.arena.now.checked in
     let operand = register_of checked c.peek-f1.ensures.inner c.lower_materializing-r1.ensures.walked c.lower_materializing-r1.ensures.done (λ h. c.peek-f1.ensures.register h refl) in
     let few = register_word _ c.is_refusal.ensures c.if-is_refusal.false c.value_of-d.ensures (c.destination-t.ensures.word c.requires.0) in
@@ -858,7 +858,7 @@ property-lower_materializing-r1-requires t c = walk_in _ None _ (property_below 
 
 pub property-returns-then-is_refusal-2-clause-lowers : goal.property-returns-then-is_refusal-2-clause-lowers
 property-returns-then-is_refusal-2-clause-lowers t c =
-    let tree = tree_of c.args.self.arena.now.nodes.now c.args.self.arena.now.list.now c.args.self.arena.now.names.now in
+    let tree = arena_tree c.args.self.arena.now in
     let checked = c.args.self.arena.now.checked in
     let object = register_of checked c.peek-f1.ensures.inner c.lower_materializing-r1.ensures.walked c.lower_materializing-r1.ensures.done (λ h. c.peek-f1.ensures.register h refl) in
     property_of checked _ c.requires.1 c.word.ensures c.word-property.ensures _ _
@@ -868,7 +868,7 @@ property-returns-then-is_refusal-2-clause-lowers t c =
 pub property-returns-then-is_refusal-3-clause-lowers : goal.property-returns-then-is_refusal-3-clause-lowers
 unfolding fetched
 property-returns-then-is_refusal-3-clause-lowers t c =
-    let tree = tree_of c.args.self.arena.now.nodes.now c.args.self.arena.now.list.now c.args.self.arena.now.names.now in
+    let tree = arena_tree c.args.self.arena.now in
     let checked = c.args.self.arena.now.checked in
     let object = register_of checked c.peek-f1.ensures.inner c.lower_materializing-r1.ensures.walked c.lower_materializing-r1.ensures.done (λ h. c.peek-f1.ensures.register h refl) in
     property_of checked _ c.requires.1 c.word.ensures c.word-property.ensures _ _
@@ -879,7 +879,7 @@ property-returns-then-is_refusal-3-clause-lowers t c =
 pub property-returns-then-is_refusal-4-clause-lowers : goal.property-returns-then-is_refusal-4-clause-lowers
 unfolding fetched words_of
 property-returns-then-is_refusal-4-clause-lowers t c =
-    let tree = tree_of c.args.self.arena.now.nodes.now c.args.self.arena.now.list.now c.args.self.arena.now.names.now in
+    let tree = arena_tree c.args.self.arena.now in
     let checked = c.args.self.arena.now.checked in
     let object = register_of checked c.peek-f1.ensures.inner c.lower_materializing-r1.ensures.walked c.lower_materializing-r1.ensures.done (λ h. c.peek-f1.ensures.register h refl) in
     let told = same_fields _ c.reg_of.ensures c.reg_of-2.ensures refl in
@@ -892,7 +892,7 @@ property-returns-then-is_refusal-4-clause-lowers t c =
 pub property-returns-clause-lowers : goal.property-returns-clause-lowers
 unfolding fetched words_of settled
 property-returns-clause-lowers t c =
-    let tree = tree_of c.args.self.arena.now.nodes.now c.args.self.arena.now.list.now c.args.self.arena.now.names.now in
+    let tree = arena_tree c.args.self.arena.now in
     let checked = c.args.self.arena.now.checked in
     let object = register_of checked c.peek-f1.ensures.inner c.lower_materializing-r1.ensures.walked c.lower_materializing-r1.ensures.done (λ h. c.peek-f1.ensures.register h refl) in
     let few = register_word _ c.is_refusal.ensures c.if-is_refusal.false c.value_of-d.ensures (c.destination-t.ensures.word c.requires.0) in
@@ -911,7 +911,7 @@ property-returns-clause-lowers t c =
 pub test-returns-then-is_refusal-clause-lowers : goal.test-returns-then-is_refusal-clause-lowers
 unfolding test
 test-returns-then-is_refusal-clause-lowers t c =
-    let tree = tree_of c.args.self.arena.now.nodes.now c.args.self.arena.now.list.now c.args.self.arena.now.names.now in
+    let tree = arena_tree c.args.self.arena.now in
     -- its value, by either way
     let value : Lowers (λ t. register_at) (λ t. lower_materializing (lower_expression free_temp t c.args.self.index) None) c.args.self.arena.now.nodes.now c.args.self.arena.now.list.now c.args.self.arena.now.names.now
     c.args.buffers.now.code.now c.args.buffers.now.constants.now c.args.buffers.now.marks.now c.if-is_literal.buffers.code.now c.if-is_literal.buffers.constants.now c.if-is_literal.buffers.marks.now c.args.state c.if-is_literal.r =
@@ -929,7 +929,7 @@ test-returns-then-is_refusal-clause-lowers t c =
 pub test-returns-clause-lowers : goal.test-returns-clause-lowers
 unfolding test
 test-returns-clause-lowers t c =
-    let tree = tree_of c.args.self.arena.now.nodes.now c.args.self.arena.now.list.now c.args.self.arena.now.names.now in
+    let tree = arena_tree c.args.self.arena.now in
     -- its value, by either way
     let value : Lowers (λ t. register_at) (λ t. lower_materializing (lower_expression free_temp t c.args.self.index) None) c.args.self.arena.now.nodes.now c.args.self.arena.now.list.now c.args.self.arena.now.names.now
     c.args.buffers.now.code.now c.args.buffers.now.constants.now c.args.buffers.now.marks.now c.if-is_literal.buffers.code.now c.if-is_literal.buffers.constants.now c.if-is_literal.buffers.marks.now c.args.state c.if-is_literal.r =

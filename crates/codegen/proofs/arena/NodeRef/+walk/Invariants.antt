@@ -1,12 +1,9 @@
 -- The measures of the cycle: the node, and on the same node the rank of the function. The loops' invariants: what is left gives what all gives. Assumes nothing.
 use Rattle.std.proofs.Common.{cond, ◌≡◌, ◌≤◌, ◌+◌, ◌-◌, ◌*◌}
-use Rattle.words.specs.Words.{words}
-use Rattle.lowering.specs.Tree.{tree_of}
-use Rattle.lowering.specs.Walk.{made}
 use Rattle.lowering.specs.Steps.{free_temp}
 use Rattle.lowering.specs.Lower.{lower_arguments, lower_entries, lower_expression}
 use Rattle.steps.specs.Answers.{register_at, settled, is_inner, value_of}
-use Rattle.codegen.specs.Walks.{Kept}
+use Rattle.codegen.specs.Walks.{arena_tree, made_of, Kept}
 use Rattle.codegen.proofs.arena.NodeRef.+walk.Given as goal
 
 abbrev pub decreases-arguments : goal.decreases-arguments
@@ -59,16 +56,16 @@ decreases-test l = 8 * l.self.index + 3
 
 abbrev pub invariant-arguments-loop-i : goal.invariant-arguments-loop-i
 invariant-arguments-loop-i l =
-    (settled (lower_arguments (tree_of l.self.arena.now.nodes.now l.self.arena.now.list.now l.self.arena.now.names.now) (lower_expression free_temp (tree_of l.self.arena.now.nodes.now l.self.arena.now.list.now l.self.arena.now.names.now)) l.self.index l.first l.count 0 (made (words l.initial.buffers.code.now) (words l.initial.buffers.constants.now) (words l.initial.buffers.marks.now) l.initial.s))
-    ≡ settled (lower_arguments (tree_of l.self.arena.now.nodes.now l.self.arena.now.list.now l.self.arena.now.names.now) (lower_expression free_temp (tree_of l.self.arena.now.nodes.now l.self.arena.now.list.now l.self.arena.now.names.now)) l.self.index l.first (l.count - l.i) l.i (made (words l.buffers.code.now) (words l.buffers.constants.now) (words l.buffers.marks.now) l.s)))
+    (settled (lower_arguments (arena_tree l.self.arena.now) (lower_expression free_temp (arena_tree l.self.arena.now)) l.self.index l.first l.count 0 (made_of l.initial.buffers l.initial.s))
+    ≡ settled (lower_arguments (arena_tree l.self.arena.now) (lower_expression free_temp (arena_tree l.self.arena.now)) l.self.index l.first (l.count - l.i) l.i (made_of l.buffers l.s)))
     × Kept l.initial.buffers l.buffers
 
 -- proposed from the loop's first test
 abbrev pub invariant-lower_map-loop-i : goal.invariant-lower_map-loop-i
 invariant-lower_map-loop-i l =
     (l.i ≤ l.count)
-    × ((lower_entries (tree_of l.self.arena.now.nodes.now l.self.arena.now.list.now l.self.arena.now.names.now) (lower_expression free_temp (tree_of l.self.arena.now.nodes.now l.self.arena.now.list.now l.self.arena.now.names.now)) (register_at l.d) l.first l.count 0 (made (words l.initial.buffers.code.now) (words l.initial.buffers.constants.now) (words l.initial.buffers.marks.now) l.initial.s)
-    ≡ lower_entries (tree_of l.self.arena.now.nodes.now l.self.arena.now.list.now l.self.arena.now.names.now) (lower_expression free_temp (tree_of l.self.arena.now.nodes.now l.self.arena.now.list.now l.self.arena.now.names.now)) (register_at l.d) l.first (l.count - l.i) l.i (made (words l.buffers.code.now) (words l.buffers.constants.now) (words l.buffers.marks.now) l.s))
+    × ((lower_entries (arena_tree l.self.arena.now) (lower_expression free_temp (arena_tree l.self.arena.now)) (register_at l.d) l.first l.count 0 (made_of l.initial.buffers l.initial.s)
+    ≡ lower_entries (arena_tree l.self.arena.now) (lower_expression free_temp (arena_tree l.self.arena.now)) (register_at l.d) l.first (l.count - l.i) l.i (made_of l.buffers l.s))
     × Kept l.initial.buffers l.buffers)
 
 -- proposed from the loop's first test

@@ -35,5 +35,5 @@ returns-in-Ok-clause-step c =
     (binary_of _ _ _ c.requires.0 refl _ checked _
     (then_leaves _ _ _ leaves list _ words _ _
     (binary_leaves _ _ _ leaves list _ words _ _ _ _
-    (((c.binary_operation.ensures.step list names rs n (lower_expression free_temp (tree_of nodes list names)) (not_both _ _ _ leaves list _ words)))
+    (((c.binary_operation.ensures.step rs n (lower_expression free_temp (tree_of nodes list names)) (not_both _ _ _ leaves list _ words)))
     ∙ given_operand _ _ _ _ _ c.requires.1 c.binary_operation.ensures.word))))

@@ -34,4 +34,4 @@ returns-in-Ok-clause-step c =
     compared_of _ _ _ c.requires operator_read _ _ _ _ compares.0 compares.1
     (then_leaves _ _ _ leaves list _ words _ _
     (fused_leaves _ _ _ leaves list _ words _ _ _ _ _
-    ((c.fused_jump.ensures.step list names rs n (lower_expression free_temp (tree_of nodes list names)) (lower_expression free_temp (tree_of nodes list names) c.args.self.index) compares.0 (not_both _ _ _ leaves list _ words) (sym (ap comparison operator_read) ∙ compares.1)))))
+    ((c.fused_jump.ensures.step rs n (lower_expression free_temp (tree_of nodes list names)) (lower_expression free_temp (tree_of nodes list names) c.args.self.index) compares.0 (not_both _ _ _ leaves list _ words) (sym (ap comparison operator_read) ∙ compares.1)))))

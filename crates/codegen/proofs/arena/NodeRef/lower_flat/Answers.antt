@@ -38,7 +38,7 @@ returns-then-eq-2-clause-step c =
       | then-eq-3 w ↦ rw w.dest-is (sym (into_dest _ _ (same_true the_type tt _ _ (sym c.eq-then-eq-2.ensures ∙ w.if-eq-3.true))))
       | else-eq-3 w ↦ rw w.dest-is (sym (own_dest _ _ (same_false the_type _ _ (sym c.eq-then-eq-2.ensures ∙ w.if-eq-3.false))))
     ] in
-    λ rs n h. ap settled (name_flat _ _ _ _ _ kind) ∙ (rw dest at (c.name_into.ensures.step c.args.self.arena.now.list.now rs n))
+    λ rs n h. ap settled (name_flat _ _ _ _ _ kind) ∙ (rw dest at (c.name_into.ensures.step rs n))
 
 pub returns-clause-step : goal.returns-clause-step
 returns-clause-step c =

@@ -2,10 +2,10 @@
 use Rattle.std.proofs.Common.{refl, sym, ◌∙◌}
 use Rattle.runtime.specs.declared.instruction.Instruction.{Instruction}
 use Rattle.runtime.specs.Instruction.{words_of}
-use Rattle.lowering.specs.Tree.{tree_of}
 use Rattle.lowering.specs.Result.{lower_root}
 use Rattle.steps.specs.Answers.{place_at}
 use Rattle.steps.proofs.Chains.{then, then_by, stop_by}
+use Rattle.codegen.specs.Walks.{arena_tree}
 use Rattle.codegen.proofs.Children.{register_of}
 use Rattle.codegen.proofs.arena.NodeRef.lower_value.Goals as goal
 
@@ -19,7 +19,7 @@ returns-then-is_refusal-clause-lowers c =
 pub returns-then-is_refusal-2-clause-lowers : goal.returns-then-is_refusal-2-clause-lowers
 unfolding lower_root words_of
 returns-then-is_refusal-2-clause-lowers c =
-    let t = tree_of c.args.self.arena.now.nodes.now c.args.self.arena.now.list.now c.args.self.arena.now.names.now in
+    let t = arena_tree c.args.self.arena.now in
     let checked = c.args.self.arena.now.checked in
     let value = register_of checked c.peek-f.ensures.inner c.lower_materializing-r.ensures.walked c.lower_materializing-r.ensures.done (λ h. c.peek-f.ensures.register h refl) in
     then_by t _ _ _ _ _ value c.is_refusal.ensures c.if-is_refusal.false c.value_of-src.ensures
@@ -28,7 +28,7 @@ returns-then-is_refusal-2-clause-lowers c =
 pub returns-clause-lowers : goal.returns-clause-lowers
 unfolding lower_root words_of
 returns-clause-lowers c =
-    let t = tree_of c.args.self.arena.now.nodes.now c.args.self.arena.now.list.now c.args.self.arena.now.names.now in
+    let t = arena_tree c.args.self.arena.now in
     let checked = c.args.self.arena.now.checked in
     let value = register_of checked c.peek-f.ensures.inner c.lower_materializing-r.ensures.walked c.lower_materializing-r.ensures.done (λ h. c.peek-f.ensures.register h refl) in
     then_by t _ _ _ _ _ value c.is_refusal.ensures c.if-is_refusal.false c.value_of-src.ensures

@@ -1,9 +1,9 @@
 -- `codegen::flat::name_into` meets its contract.
 use Rattle.std.proofs.Common.{sym, ◌∙◌, refl, arith}
 use Rattle.runtime.specs.Instruction.{words_of}
-use Rattle.lowering.specs.Tree.{tree_of}
 use Rattle.steps.specs.Answers.{operand_at, place_at, settled}
 use Rattle.steps.proofs.Chains.{then, stop_by}
+use Rattle.codegen.specs.Walks.{arena_tree}
 use Rattle.codegen.proofs.Walk.{ended}
 use Rattle.codegen.proofs.Reading.{name_of, name_undeclared, name_free, name_own, name_moved, aimed_word}
 use Rattle.codegen.proofs.arena.NodeRef.name_into.Goals as goal
@@ -12,8 +12,8 @@ pub returns-in_default-clause-step : goal.returns-in_default-clause-step
 returns-in_default-clause-step c =
     let found = rw c.word.ensures at c.find.ensures.found in
     rw c.refused.ensures
-    (λ list rs n.
-    let t = tree_of c.args.self.arena.now.nodes.now list c.args.self.arena.now.names.now in
+    (λ rs n.
+    let t = arena_tree c.args.self.arena.now in
     name_of t _ _ _ c.requires.0 found
     (name_undeclared t _ _ _ (operand_at _) (omega arith) c.in_default.is))
 
@@ -21,8 +21,8 @@ pub returns-in_default-dest-clause-step : goal.returns-in_default-dest-clause-st
 returns-in_default-dest-clause-step c =
     let found = rw c.word.ensures at c.find.ensures.found in
     rw (c.answered.ensures, c.in_default-dest.is)
-    (λ list rs n.
-    let t = tree_of c.args.self.arena.now.nodes.now list c.args.self.arena.now.names.now in
+    (λ rs n.
+    let t = arena_tree c.args.self.arena.now in
     name_of t _ _ _ c.requires.0 found
     (name_free t _ _ c.find.ensures.local c.in-Some.is _))
 
@@ -31,8 +31,8 @@ returns-then-d-register-clause-step c =
     let found = rw c.word.ensures at c.find.ensures.found in
     let few = aimed_word c.requires.1 c.in-Some-dest.is in
     rw (c.answered-then-d-register.ensures, c.in-Some-dest.is)
-    (λ list rs n.
-    let t = tree_of c.args.self.arena.now.nodes.now list c.args.self.arena.now.names.now in
+    (λ rs n.
+    let t = arena_tree c.args.self.arena.now in
     name_of t _ _ _ c.requires.0 found
     (name_own t _ _ c.find.ensures.local c.in-Some.is few _ c.if-d-register.true))
 
@@ -42,8 +42,8 @@ returns-then-is_refusal-clause-step c =
     let found = rw c.word.ensures at c.find.ensures.found in
     let few = aimed_word c.requires.1 c.in-Some-dest.is in
     rw c.in-Some-dest.is
-    (λ list rs n.
-    let t = tree_of c.args.self.arena.now.nodes.now list c.args.self.arena.now.names.now in
+    (λ rs n.
+    let t = arena_tree c.args.self.arena.now in
     name_of t _ _ _ c.requires.0 found
     (name_moved t _ _ c.find.ensures.local c.in-Some.is few c.if-d-register.false
     (stop_by t _ place_at _ _ _ (c.emit-e.ensures.step t _ rs n _ _ (rw (c.reg_of.ensures, c.reg_of-2.ensures) refl)) (operand_at _) c.is_refusal.ensures c.if-is_refusal.true)))
@@ -54,8 +54,8 @@ returns-clause-step c =
     let found = rw c.word.ensures at c.find.ensures.found in
     let few = aimed_word c.requires.1 c.in-Some-dest.is in
     rw (c.answered-2.ensures, c.in-Some-dest.is)
-    (λ list rs n.
-    let t = tree_of c.args.self.arena.now.nodes.now list c.args.self.arena.now.names.now in
+    (λ rs n.
+    let t = arena_tree c.args.self.arena.now in
     name_of t _ _ _ c.requires.0 found
     (name_moved t _ _ c.find.ensures.local c.in-Some.is few c.if-d-register.false
     (then t _ place_at _ _ _ (c.emit-e.ensures.step t _ rs n _ _ (rw (c.reg_of.ensures, c.reg_of-2.ensures) refl)) (sym c.is_refusal.ensures ∙ c.if-is_refusal.false)
