@@ -25,7 +25,7 @@ use Rattle.lowering.specs.Walk.{Made, made, Outcome, Walk, bind, ◌>>=◌, ◌>
 use Rattle.lowering.specs.Steps.{free_temp, destination, emit, patch_to_next, mark}
 use Rattle.lowering.specs.Lower.{refuse, lower_materializing, lower_arguments, lower_else, lower_node, lower_expression, lower_jump_if_false}
 use Rattle.patch.specs.Arguments.{mark_argument}
-use Rattle.steps.specs.declared.answer.AnswerAndState.{AnswerAndState}
+use Rattle.steps.specs.declared.answer.Stepped.{Stepped}
 use Rattle.steps.specs.Answers.{register_at, settled, seen, refusal_at, names_node, error_at, word_end, unit_at}
 use Rattle.steps.proofs.Words.{register_at_local}
 use Rattle.steps.proofs.Chains.{seen_refusal, seen_word}
@@ -38,15 +38,10 @@ use Rattle.codegen.proofs.Walk.{below_of, expression_of}
 pub same_fields : (opcode : ℕ) {a b c x y z : ℕ} → a ≡ x → b ≡ y → c ≡ z → opcode ∷ x ∷ y ∷ z ∷ [] ≡ opcode ∷ a ∷ b ∷ c ∷ []
 same_fields opcode e f g = rw (e, f, g)
 
--- by what `answered` or `refused` answers
-pub by_answer : {A : Type 0} (t : Tree) (gives : ℕ → A) (code pool marks : List ℕ) (r : AnswerAndState) {s : State} {w : ℕ} {o : Outcome A} → (r.state ≡ s) × (r.answer ≡ w) →
-    o ≡ seen t gives (made code pool marks s) w → o ≡ seen t gives (made code pool marks r.state) r.answer
-by_answer t gives code pool marks r same q = rw (same.0, same.1) q
-
--- by what a step on the counts answers of a state
-pub counted_on : {A : Type 0} (t : Tree) (gives : ℕ → A) (code pool marks : List ℕ) {s : State} {a : ℕ} {r : AnswerAndState} {o : Outcome A} → r ≡ record { state = s; answer = a } →
-    o ≡ seen t gives (made code pool marks s) a → o ≡ seen t gives (made code pool marks r.state) r.answer
-counted_on t gives code pool marks same q = rw same q
+-- by what a step answers
+pub by_answer : {A : Type 0} (t : Tree) (gives : ℕ → A) (code pool marks : List ℕ) {s : State} {a : ℕ} {r : Stepped State} {o : Outcome A} → r ≡ record { after = s; answer = a } →
+    o ≡ seen t gives (made code pool marks s) a → o ≡ seen t gives (made code pool marks r.after) r.answer
+by_answer t gives code pool marks same q = rw same q
 
 -- a refusal that names a node
 refused_at : {A : Type 0} (t : Tree) (gives : ℕ → A) (refusal : Refusal) (i : ℕ) (m : Made) → names_node refusal ≡ true → i < word_end →
@@ -152,7 +147,7 @@ unfolding mark_argument
 marked marks count instructions h left = rw (ne_eqb instructions 0 h) at left
 
 -- where there is none
-pub stop_unmarked : {B : Type 0} (t : Tree) (call : ℕ) (m : Made) (k : ℕ → Walk B) (gives : ℕ → B) → m.state.instructions ≡ 0 → call < word_end →
+pub stop_unmarked : {B : Type 0} (t : Tree) (call : ℕ) (m : Made) (k : ℕ → Walk B) (gives : ℕ → B) → m.state.counts.instructions ≡ 0 → call < word_end →
     settled (bind (mark call (span_start t call) (span_end t call) m) k) ≡ seen t gives m (refusal_at Refusal.Unmarked call)
 unfolding mark bind names_node
-stop_unmarked t call m k gives h small = rw (eq-eqb m.state.instructions 0 h) (refused_at t gives Refusal.Unmarked call m refl small)
+stop_unmarked t call m k gives h small = rw (eq-eqb m.state.counts.instructions 0 h) (refused_at t gives Refusal.Unmarked call m refl small)

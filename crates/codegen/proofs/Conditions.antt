@@ -26,7 +26,8 @@ use Rattle.lowering.specs.Literals.{literal}
 use Rattle.lowering.specs.Lower.{source, lower_materializing, test, fuse, fused_sources, jump_node, lower_expression}
 use Rattle.lowering.proofs.Destinations.{expression_register, node_kind}
 use Rattle.operators.proofs.Compares.{compares_some, compares_none}
-use Rattle.steps.specs.declared.answer.AnswerAndState.{AnswerAndState}
+use Rattle.lowering.specs.declared.State.{State}
+use Rattle.steps.specs.declared.answer.Stepped.{Stepped}
 use Rattle.steps.specs.Answers.{register_at, literal_word, operand_at, source_at, settled, seen}
 use Rattle.steps.proofs.Chains.{seen_word}
 use Rattle.steps.proofs.Words.{source_operand}
@@ -78,9 +79,9 @@ module _ {t : Tree} (checked : Checked t) (i : ℕ) where
       in_register t (node t i) dest (lower_expression free_temp t i dest m) m₁ a (expression_register t i (no_literal checked i h) dest m) e
 
 -- what was made and answered where two ways meet, by the way that was gone
-pub at_meeting : {A : Type 0} (t : Tree) (gives : ℕ → A) {code code₁ pool pool₁ marks marks₁ : List ℕ} {r r₁ : AnswerAndState} {o : Outcome A} →
-    code ≡ code₁ → pool ≡ pool₁ → marks ≡ marks₁ → r ≡ r₁ → o ≡ seen t gives (made (words code₁) (words pool₁) (words marks₁) r₁.state) r₁.answer →
-    o ≡ seen t gives (made (words code) (words pool) (words marks) r.state) r.answer
+pub at_meeting : {A : Type 0} (t : Tree) (gives : ℕ → A) {code code₁ pool pool₁ marks marks₁ : List ℕ} {r r₁ : Stepped State} {o : Outcome A} →
+    code ≡ code₁ → pool ≡ pool₁ → marks ≡ marks₁ → r ≡ r₁ → o ≡ seen t gives (made (words code₁) (words pool₁) (words marks₁) r₁.after) r₁.answer →
+    o ≡ seen t gives (made (words code) (words pool) (words marks) r.after) r.answer
 at_meeting t gives e f g h q = rw (e, f, g, h) q
 
 -- ---- conditions

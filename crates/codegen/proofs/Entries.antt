@@ -36,8 +36,8 @@ use Rattle.lowering.specs.Steps.{free_temp, emit, store}
 use Rattle.lowering.specs.Literals.{is_literal, literal}
 use Rattle.lowering.specs.Lower.{Source, source, register, constant, name_of, materialized, lower_materializing, store_named, store_keyed, lower_entry, lower_entries, lower_expression}
 use Rattle.lowering.proofs.Destinations.{GivesRegister, expression_register, node_kind}
-use Rattle.steps.specs.declared.counted.Counts.{Counts}
-use Rattle.steps.specs.declared.counted.AnswerAndCounts.{AnswerAndCounts}
+use Rattle.lowering.specs.declared.Counts.{Counts}
+use Rattle.steps.specs.declared.answer.Stepped.{Stepped}
 use Rattle.steps.specs.Answers.{register_at, literal_word, operand_at, source_at, place_at, word_end, refusal_at, is_refusal, value_of, names_node, error_at, settled, seen, state_of}
 use Rattle.steps.proofs.Chains.{got, stop_by, nested, seen_given, seen_word, seen_refusal}
 use Rattle.steps.proofs.Words.{source_operand, reg_of_register_at}
@@ -81,16 +81,16 @@ set_words x y src1 src2 d key value = go (eqb src1 literal_word) (eqb src2 liter
     go false false = refl
 
 -- a field, by what the program has of it
-pub field_step : (t : Tree) (c : Operand) (src : ℕ) (code marks : List ℕ) {pool pool₁ : List ℕ} {counts : Counts} {r : AnswerAndCounts} (rs : RegisterSet) (n : ℕ) →
+pub field_step : (t : Tree) (c : Operand) (src : ℕ) (code marks : List ℕ) {pool pool₁ : List ℕ} {counts : Counts} {r : Stepped Counts} (rs : RegisterSet) (n : ℕ) →
     (src ≡ literal_word → (t : Tree) (rs : RegisterSet) (n : ℕ) (k m : List ℕ) →
-    settled (store c (made k pool m (state_of rs counts n))) ≡ seen t place_at (made k pool₁ m (state_of rs r.counts n)) r.answer) →
-    (src ≢ literal_word → (r ≡ record { counts = counts; answer = reg_of (register_at src) }) × (pool₁ ≡ pool)) →
-    settled (field_of (source_at c src) (made code pool marks (state_of rs counts n))) ≡ seen t place_at (made code pool₁ marks (state_of rs r.counts n)) r.answer
+    settled (store c (made k pool m (state_of rs counts n))) ≡ seen t place_at (made k pool₁ m (state_of rs r.after n)) r.answer) →
+    (src ≢ literal_word → (r ≡ record { after = counts; answer = reg_of (register_at src) }) × (pool₁ ≡ pool)) →
+    settled (field_of (source_at c src) (made code pool marks (state_of rs counts n))) ≡ seen t place_at (made code pool₁ marks (state_of rs r.after n)) r.answer
 unfolding source_at field_of settled
 field_step t c src code marks {pool} {pool₁} {counts} {r} rs n pooled held = go (ℕ_discrete src literal_word)
   where
     go : Dec (src ≡ literal_word) →
-        settled (field_of (source_at c src) (made code pool marks (state_of rs counts n))) ≡ seen t place_at (made code pool₁ marks (state_of rs r.counts n)) r.answer
+        settled (field_of (source_at c src) (made code pool marks (state_of rs counts n))) ≡ seen t place_at (made code pool₁ marks (state_of rs r.after n)) r.answer
     go (yes l) = rw (eq-eqb src literal_word l) (pooled l t rs n code marks)
     go (no l) =
         let small : reg_of (register_at src) < word_end = omega (arith, reg_of_register_at src) in

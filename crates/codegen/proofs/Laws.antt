@@ -126,7 +126,7 @@ module _ (nodes list names : List ℕ) (mode root : ℕ) where
     module _ {code c constants p marks m : List ℕ} {nc np nm : ℕ} (lc : Lent code c nc) (lp : Lent constants p np) (lm : Lent marks m nm)
         (arity : ℕ) (h : arity ≡ length names / 4) (registers : RegisterSet) (fresh : registers ≡ parameters arity) (s : State) (a : ℕ)
         (e : settled (definition.lower_root free_temp (tree_of nodes list names) mode root
-        (made (words (take nc code)) (words (take np constants)) (words (take nm marks)) (record { registers = registers; instructions = 0; constants = 0; marks = 0 })))
+        (made (words (take nc code)) (words (take np constants)) (words (take nm marks)) (record { registers = registers; counts = record { instructions = 0; constants = 0 }; marks = 0 })))
         ≡ seen (tree_of nodes list names) place_at (made (words c) (words p) (words m) s) a) where
       whole : definition.lower nodes root mode list names (words code) (words constants) (words marks)
           ≡ definition.lowered_of arity (seen (tree_of nodes list names) place_at (made (words c) (words p) (words m) s) a)

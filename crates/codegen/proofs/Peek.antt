@@ -33,8 +33,8 @@ use Rattle.lowering.specs.Trace.{registers_of}
 use Rattle.lowering.proofs.Bound.Lowering.{expression_at}
 use Rattle.lowering.proofs.Running.Steps.{Holds, fine, void, holds_ends}
 use Rattle.lowering.proofs.Destinations.{OnlyAnswer, GivesRegister, Stays, bind_bind, literal_source, binary_any, expression_into, expression_register, node_kind}
-use Rattle.steps.specs.declared.counted.Counts.{Counts}
-use Rattle.steps.specs.declared.counted.AnswerAndCounts.{AnswerAndCounts}
+use Rattle.lowering.specs.declared.Counts.{Counts}
+use Rattle.steps.specs.declared.answer.Stepped.{Stepped}
 use Rattle.steps.specs.Answers.{none, any, register_at, number_at, literal_word, operand_at, source_at, word_end, refusal_start, is_refusal, value_of, is_inner, refusal_at, names_node, error_at, settled, seen, state_of, WordOrRefusal}
 use Rattle.steps.proofs.Chains.{got, stop, seen_given, seen_stopped, seen_word, seen_refusal, some_allocated, none_allocated}
 use Rattle.steps.proofs.Words.{register_at_temporary, taken_number, source_operand, is_refusal_refusal, is_inner_inner, value_of_inner}
@@ -83,8 +83,8 @@ module _ (a i : ℕ) (told : a ≡ word_end + i) (small : i < word_end) where
   inner_value = rw told (value_of_inner i small)
 
 -- what `lower_flat` left, by the answer
-module _ (nodes : List ℕ) (i : ℕ) (f : AnswerAndCounts) {counts : Counts} {A : Type 0} (small : i < word_end)
-    (left : is_flat nodes i ≡ false → (f ≡ record { counts = counts; answer = word_end + i }) × A) where
+module _ (nodes : List ℕ) (i : ℕ) (f : Stepped Counts) {counts : Counts} {A : Type 0} (small : i < word_end)
+    (left : is_flat nodes i ≡ false → (f ≡ record { after = counts; answer = word_end + i }) × A) where
   pub was_flat : is_inner f.answer ≡ false → is_flat nodes i ≡ true
   was_flat h = go (is_flat nodes i) refl
     where
@@ -102,10 +102,10 @@ module _ (nodes : List ℕ) (i : ℕ) (f : AnswerAndCounts) {counts : Counts} {A
 
   -- nothing was done, and the node is an operator or of a later kind
   pub left_over : (is_flat nodes i ≡ true → WordOrRefusal f.answer) → is_inner f.answer ≡ true →
-      (f ≡ record { counts = counts; answer = word_end + i }) × A × (value_of f.answer ≡ i) × (binary_kind ≤ node_word_of nodes i 0)
+      (f ≡ record { after = counts; answer = word_end + i }) × A × (value_of f.answer ≡ i) × (binary_kind ≤ node_word_of nodes i 0)
   left_over word h = go (is_flat nodes i) refl
     where
-      go : (b : Bool) → is_flat nodes i ≡ b → (f ≡ record { counts = counts; answer = word_end + i }) × A × (value_of f.answer ≡ i) × (binary_kind ≤ node_word_of nodes i 0)
+      go : (b : Bool) → is_flat nodes i ≡ b → (f ≡ record { after = counts; answer = word_end + i }) × A × (value_of f.answer ≡ i) × (binary_kind ≤ node_word_of nodes i 0)
       go true e = absurd (false≢true (sym (no_inner f.answer (word e)) ∙ h))
       go false e = let same = left e in (same.0, same.1, inner_value f.answer i (ap (λ x. x.answer) same.0) small, later_kind e)
 
@@ -120,7 +120,7 @@ abbrev pub Held : (s s' : State) → RegisterSet → ℕ → ℕ → Type 0
 Held s s' set d a = (s'.registers ≡ holding s.registers set d a) × (s'.marks ≡ s.marks)
 
 module _ {a d : ℕ} (s : State) {s' : State} (set : RegisterSet) where
-  pub held_taken : s' ≡ record { registers = set; instructions = s.instructions; constants = s.constants; marks = s.marks } → a ≡ d → Held s s' set d a
+  pub held_taken : s' ≡ record { registers = set; counts = s.counts; marks = s.marks } → a ≡ d → Held s s' set d a
   held_taken is e = rw (is, eq-eqb a d e) (refl, refl)
 
   pub held_left : s' ≡ s → a ≢ d → Held s s' set d a
@@ -325,29 +325,29 @@ module _ {t : Tree} (checked : Checked t) (i : ℕ) (asked : Asked) (m m' : Made
           (expression_register t i (no_literal checked i later) None m) (later_operand later (λ e. cc))
 
 -- the same, by what `lower_flat` ensures, and by the state afterwards
-module _ (nodes names code code' pool pool' marks marks' : List ℕ) (i : ℕ) (asked : Asked) (d : ℕ) (s s' : State) (counts : Counts) (f : AnswerAndCounts) {after : Taken ℕ} {A : Type 0}
+module _ (nodes names code code' pool pool' marks marks' : List ℕ) (i : ℕ) (asked : Asked) (d : ℕ) (s s' : State) (f : Stepped Counts) {after : Taken ℕ} {A : Type 0}
     (took : after ≡ taken s.registers) (number : d ≡ number_at after.register) (held : Held s s' after.set d f.answer)
-    (of : counts ≡ record { instructions = s.instructions; constants = s.constants }) (simple : node_word_of nodes i 0 ≤ binary_kind) (small : i < word_end)
-    (left : is_flat nodes i ≡ false → (f ≡ record { counts = counts; answer = word_end + i }) × A)
+    (simple : node_word_of nodes i 0 ≤ binary_kind) (small : i < word_end)
+    (left : is_flat nodes i ≡ false → (f ≡ record { after = s.counts; answer = word_end + i }) × A)
     (word : is_flat nodes i ≡ true → WordOrRefusal f.answer)
     (list : List ℕ) (checked : Checked (tree_of nodes list names)) (tried : (rs : RegisterSet) (n : ℕ) → is_flat nodes i ≡ true →
-    settled (flat_node (tree_of nodes list names) asked d i (made code pool marks (state_of rs counts n)))
-    ≡ seen (tree_of nodes list names) (operand_at (node_at (words nodes) i)) (made code' pool' marks' (state_of rs f.counts n)) f.answer)
+    settled (flat_node (tree_of nodes list names) asked d i (made code pool marks (state_of rs s.counts n)))
+    ≡ seen (tree_of nodes list names) (operand_at (node_at (words nodes) i)) (made code' pool' marks' (state_of rs f.after n)) f.answer)
     (told : is_inner f.answer ≡ false) where
   pub peeked_operand : asked ≡ Asked.Operand →
       settled (lower_expression free_temp (tree_of nodes list names) i None (made code pool marks s))
-      ≡ seen (tree_of nodes list names) (operand_at (node_at (words nodes) i)) (made code' pool' marks' (state_of s'.registers f.counts s'.marks)) f.answer
+      ≡ seen (tree_of nodes list names) (operand_at (node_at (words nodes) i)) (made code' pool' marks' (state_of s'.registers f.after s'.marks)) f.answer
   peeked_operand q =
       let flat = was_flat nodes i f small left told in
       rw (held.0, held.1)
-      (flat_operand checked i asked (made code pool marks s) (made code' pool' marks' (state_of s.registers f.counts s.marks)) f.answer d took number simple (word flat)
-      (λ rs. rw of at (tried rs s.marks flat)) q)
+      (flat_operand checked i asked (made code pool marks s) (made code' pool' marks' (state_of s.registers f.after s.marks)) f.answer d took number simple (word flat)
+      (λ rs. tried rs s.marks flat) q)
 
   pub peeked_register : asked ≡ Asked.Register →
       settled (lower_materializing (lower_expression free_temp (tree_of nodes list names) i) None (made code pool marks s))
-      ≡ seen (tree_of nodes list names) register_at (made code' pool' marks' (state_of s'.registers f.counts s'.marks)) f.answer
+      ≡ seen (tree_of nodes list names) register_at (made code' pool' marks' (state_of s'.registers f.after s'.marks)) f.answer
   peeked_register q =
       let flat = was_flat nodes i f small left told in
       rw (held.0, held.1)
-      (flat_register checked i asked (made code pool marks s) (made code' pool' marks' (state_of s.registers f.counts s.marks)) f.answer d took number simple (word flat)
-      (λ rs. rw of at (tried rs s.marks flat)) q)
+      (flat_register checked i asked (made code pool marks s) (made code' pool' marks' (state_of s.registers f.after s.marks)) f.answer d took number simple (word flat)
+      (λ rs. tried rs s.marks flat) q)

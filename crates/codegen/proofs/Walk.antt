@@ -202,8 +202,8 @@ then_freed_source m c w k {r} same q = go (ℕ_discrete w literal_word)
     go (no h) = rw (ne_eqb w literal_word h) (then_freed m w k same q)
 
 -- a jump patched to the next instruction
-pub then_patched : {B : Type 0} (m : Made) (j : ℕ) (code : List ℕ) (k : Unit {0} → Walk B) {r : Outcome B} → code ≡ put_offset m.code j (m.state.instructions - j) →
-    settled (k tt (with_code code m.state.instructions m)) ≡ r → settled (bind (patch_to_next j m) k) ≡ r
+pub then_patched : {B : Type 0} (m : Made) (j : ℕ) (code : List ℕ) (k : Unit {0} → Walk B) {r : Outcome B} → code ≡ put_offset m.code j (m.state.counts.instructions - j) →
+    settled (k tt (with_code code m.state.counts.instructions m)) ≡ r → settled (bind (patch_to_next j m) k) ≡ r
 unfolding patch_to_next bind
 then_patched m j code k same q = rw (← same) q
 

@@ -7,7 +7,7 @@ use Rattle.lowering.specs.declared.State.{State}
 use Rattle.lowering.specs.Tree.{Tree, tree_of}
 use Rattle.lowering.specs.Checked.{Checked}
 use Rattle.lowering.specs.Walk.{Walk, made}
-use Rattle.steps.specs.declared.answer.AnswerAndState.{AnswerAndState}
+use Rattle.steps.specs.declared.answer.Stepped.{Stepped}
 use Rattle.steps.specs.Answers.{settled, seen}
 
 -- a node of the arena
@@ -27,7 +27,7 @@ abbrev pub EntryBelow : ℕ → ℕ → ℕ → Type 0
 EntryBelow i key value = (key < i) × (value < i)
 
 -- the program lowers as the walk w of the definition: what it answers, and the words that it leaves of the three buffers
-abbrev pub Lowers : {A : Type 0} → (Tree → ℕ → A) → (Tree → Walk A) → (nodes list names code constants marks code' constants' marks' : List ℕ) → State → AnswerAndState → Type 0
+abbrev pub Lowers : {A : Type 0} → (Tree → ℕ → A) → (Tree → Walk A) → (nodes list names code constants marks code' constants' marks' : List ℕ) → State → Stepped State → Type 0
 Lowers gives w nodes list names code constants marks code' constants' marks' state r =
     settled (w (tree_of nodes list names) (made (words code) (words constants) (words marks) state))
-    ≡ seen (tree_of nodes list names) (gives (tree_of nodes list names)) (made (words code') (words constants') (words marks') r.state) r.answer
+    ≡ seen (tree_of nodes list names) (gives (tree_of nodes list names)) (made (words code') (words constants') (words marks') r.after) r.answer

@@ -6,7 +6,7 @@ use Rattle.syntax.specs.Ast.{node_at}
 use Rattle.lowering.specs.declared.State.{State}
 use Rattle.lowering.specs.Tree.{Tree, tree_of}
 use Rattle.lowering.specs.Walk.{Walk, Made, made}
-use Rattle.steps.specs.declared.answer.AnswerAndState.{AnswerAndState}
+use Rattle.steps.specs.declared.answer.Stepped.{Stepped}
 use Rattle.steps.specs.Answers.{literal_word}
 use Rattle.environment.specs.Environment.{lookup}
 use Rattle.codegen.specs.Ready.{Lowers, node_word_of}
@@ -47,11 +47,11 @@ abbrev pub Untouched : Buffers → Buffers → Type 0
 Untouched old new = (words new.code.now ≡ words old.code.now) × ((words new.constants.now ≡ words old.constants.now) × (words new.marks.now ≡ words old.marks.now))
 
 -- and no register and no count changed
-abbrev pub NothingDone : Buffers → Buffers → State → AnswerAndState → Type 0
-NothingDone old new state r = (r.state ≡ state) × Untouched old new
+abbrev pub NothingDone : Buffers → Buffers → State → Stepped State → Type 0
+NothingDone old new state r = (r.after ≡ state) × Untouched old new
 
 -- the walk's answer, and the words that it leaves, are those of w of the definition
-abbrev pub Walks : {A : Type 0} → (Tree → ℕ → A) → (Tree → Walk A) → Arena → Buffers → Buffers → State → AnswerAndState → Type 0
+abbrev pub Walks : {A : Type 0} → (Tree → ℕ → A) → (Tree → Walk A) → Arena → Buffers → Buffers → State → Stepped State → Type 0
 Walks gives w a old new state r =
     Lowers gives w a.nodes.now a.list.now a.names.now old.code.now old.constants.now old.marks.now new.code.now new.constants.now new.marks.now state r
 

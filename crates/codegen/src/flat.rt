@@ -26,14 +26,15 @@ ghost use Rattle.codegen.specs.Flat.{Given, is_flat, found_at, LocalOr, needing,
 
 use crate::arena::{Buffers, NodeRef};
 use diagnostics::Refusal;
-use lowering::State;
+use lowering::{Counts, State};
 use operators::{is_comparison, jump_if};
 use runtime::opcode::Opcode;
 use runtime::operand::Operand;
 use steps::answer::{
-    AnswerAndState, LITERAL, NONE, inner, is_refusal, number_at, reg_of, value_of,
+    LITERAL, NONE, Stepped, answered, is_refusal, left_to_walk, number_at, refused, reg_of,
+    value_of,
 };
-use steps::counted::{AnswerAndCounts, Counts, constant_into, emit, store};
+use steps::counted::{constant_into, emit, store};
 use steps::sources::{binary_sources, field_of, fused_sources};
 use syntax::ast::node_of;
 use syntax::kind::Kind;
@@ -106,16 +107,16 @@ impl NodeRef<'_> {
 
     // A literal in d, if there is a register: pool, LoadConst.
     #[tactic(auto, using(steps::proofs::Words::refusal_start_lem))]
-    fn literal_into(self, buffers: &mut Buffers, counts: Counts, d: u32) -> AnswerAndCounts
+    fn literal_into(self, buffers: &mut Buffers, counts: Counts, d: u32) -> Stepped<Counts>
         ensures step { (t : Tree) (rs : RegisterSet) (n : ℕ) →
             settled (needing d (load_constant (literal (tree_node self.entry)) (Some (register_at d)))
             (made_of buffers.old (state_of rs counts n)))
-            ≡ seen t register_at (made_of buffers.new (state_of rs result.counts n)) result.answer }
+            ≡ seen t register_at (made_of buffers.new (state_of rs result.after n)) result.answer }
         ensures word { DestOrRefusal d result.answer }
         ensures kept { Kept buffers.old buffers.new }
     {
         if d == NONE {
-            return counts.refused(Refusal::Registers, 0);
+            return refused(counts, Refusal::Registers, 0);
         }
         constant_into(buffers.code, buffers.constants, counts, self.literal(), d)
     }
@@ -127,23 +128,23 @@ impl NodeRef<'_> {
         buffers: &mut Buffers,
         counts: Counts,
         dest: Option<u32>,
-    ) -> AnswerAndCounts
+    ) -> Stepped<Counts>
         requires { (word_at self 0 ≡ name_kind) × Aimed dest }
         ensures step { (rs : RegisterSet) (n : ℕ) →
             settled (lower_expression free_temp (arena_tree self.entry.arena.now) self.entry.index (dest_of dest)
             (made_of buffers.old (state_of rs counts n)))
-            ≡ seen (arena_tree self.entry.arena.now) (operand_at (tree_node self.entry)) (made_of buffers.new (state_of rs result.counts n)) result.answer }
+            ≡ seen (arena_tree self.entry.arena.now) (operand_at (tree_node self.entry)) (made_of buffers.new (state_of rs result.after n)) result.answer }
         ensures word { WordOrRefusal result.answer }
         ensures kept { Kept buffers.old buffers.new }
     {
         let Some(register) = self.arena.find(self.word(1)) else {
-            return counts.refused(Refusal::Undeclared, self.index);
+            return refused(counts, Refusal::Undeclared, self.index);
         };
         let Some(d) = dest else {
-            return counts.answered(register);
+            return answered(counts, register);
         };
         if d == register {
-            return counts.answered(d);
+            return answered(counts, d);
         }
         let e = emit(
             buffers.code,
@@ -156,7 +157,7 @@ impl NodeRef<'_> {
         if is_refusal(e.answer) {
             return e;
         }
-        e.counts.answered(d)
+        answered(e.after, d)
     }
 
     // Whether the operands of an operator are literals or names, and not both literals.
@@ -180,26 +181,26 @@ impl NodeRef<'_> {
 
     // An operator on two leaves, with its value in d, if there is a register.
     #[tactic(auto, using(steps::proofs::Words::refusal_start_lem))]
-    fn binary_into(self, buffers: &mut Buffers, counts: Counts, d: u32) -> AnswerAndCounts
+    fn binary_into(self, buffers: &mut Buffers, counts: Counts, d: u32) -> Stepped<Counts>
         requires { (word_at self 0 ≡ binary_kind) × Given d }
         ensures step { (rs : RegisterSet) (n : ℕ) → has_leaves self.entry ≡ true →
             settled (needing d (lower_expression free_temp (arena_tree self.entry.arena.now) self.entry.index (Some (register_at d))) (made_of buffers.old (state_of rs counts n)))
-            ≡ seen (arena_tree self.entry.arena.now) (operand_at (tree_node self.entry)) (made_of buffers.new (state_of rs result.counts n)) result.answer }
+            ≡ seen (arena_tree self.entry.arena.now) (operand_at (tree_node self.entry)) (made_of buffers.new (state_of rs result.after n)) result.answer }
         ensures inner { has_leaves self.entry ≡ false →
-            (result ≡ record { counts = counts; answer = word_end + self.entry.index }) × Untouched buffers.old buffers.new }
+            (result ≡ record { after = counts; answer = word_end + self.entry.index }) × Untouched buffers.old buffers.new }
         ensures word { has_leaves self.entry ≡ true → DestOrRefusal d result.answer }
         ensures kept { Kept buffers.old buffers.new }
     {
         if !self.has_leaves() {
-            return counts.left(self.index);
+            return left_to_walk(counts, self.index);
         }
         if d == NONE {
-            return counts.refused(Refusal::Registers, 0);
+            return refused(counts, Refusal::Registers, 0);
         }
         let operator = BinaryOp::of(self.word(1));
         match self.leaf_operands() {
             Ok((src1, src2)) => self.binary_operation(buffers, counts, d, src1, src2),
-            Err(leaf) => counts.refused(Refusal::Undeclared, leaf),
+            Err(leaf) => refused(counts, Refusal::Undeclared, leaf),
         }
     }
 
@@ -211,20 +212,20 @@ impl NodeRef<'_> {
         counts: Counts,
         asked: Asked,
         d: u32,
-    ) -> AnswerAndCounts
+    ) -> Stepped<Counts>
         requires { Given d × (asked ≡ Asked.Into → d < any) }
         ensures step { (rs : RegisterSet) (n : ℕ) → is_flat self.entry.arena.now.nodes.now self.entry.index ≡ true →
             settled (flat_node (arena_tree self.entry.arena.now) asked d self.entry.index (made_of buffers.old (state_of rs counts n)))
-            ≡ seen (arena_tree self.entry.arena.now) (operand_at (tree_node self.entry)) (made_of buffers.new (state_of rs result.counts n)) result.answer }
+            ≡ seen (arena_tree self.entry.arena.now) (operand_at (tree_node self.entry)) (made_of buffers.new (state_of rs result.after n)) result.answer }
         ensures inner { is_flat self.entry.arena.now.nodes.now self.entry.index ≡ false →
-            (result ≡ record { counts = counts; answer = word_end + self.entry.index }) × Untouched buffers.old buffers.new }
+            (result ≡ record { after = counts; answer = word_end + self.entry.index }) × Untouched buffers.old buffers.new }
         ensures word { is_flat self.entry.arena.now.nodes.now self.entry.index ≡ true → WordOrRefusal result.answer }
         ensures kept { Kept buffers.old buffers.new }
     {
         let kind = self.kind();
         if kind.is_literal() {
             if asked == Asked::Operand {
-                return counts.answered(LITERAL);
+                return answered(counts, LITERAL);
             }
             return self.literal_into(buffers, counts, d);
         }
@@ -233,7 +234,7 @@ impl NodeRef<'_> {
             return self.name_into(buffers, counts, dest);
         }
         if kind != Kind::Binary {
-            return counts.left(self.index);
+            return left_to_walk(counts, self.index);
         }
         self.binary_into(buffers, counts, d)
     }
@@ -247,14 +248,14 @@ impl NodeRef<'_> {
 
     // A flat child with no destination: its operand, or its value in a register, which is taken if it needs one. Any other child is left to the walk, and
     // nothing is done.
-    pub(crate) fn peek(self, buffers: &mut Buffers, state: State, asked: Asked) -> AnswerAndState
+    pub(crate) fn peek(self, buffers: &mut Buffers, state: State, asked: Asked) -> Stepped<State>
         requires { asked ≢ Asked.Into }
         ensures operand { is_inner result.answer ≡ false → asked ≡ Asked.Operand →
             settled (lower_expression free_temp (arena_tree self.entry.arena.now) self.entry.index None (made_of buffers.old state))
-            ≡ seen (arena_tree self.entry.arena.now) (operand_at (tree_node self.entry)) (made_of buffers.new result.state) result.answer }
+            ≡ seen (arena_tree self.entry.arena.now) (operand_at (tree_node self.entry)) (made_of buffers.new result.after) result.answer }
         ensures register { is_inner result.answer ≡ false → asked ≡ Asked.Register →
             settled (lower_materializing (lower_expression free_temp (arena_tree self.entry.arena.now) self.entry.index) None (made_of buffers.old state))
-            ≡ seen (arena_tree self.entry.arena.now) register_at (made_of buffers.new result.state) result.answer }
+            ≡ seen (arena_tree self.entry.arena.now) register_at (made_of buffers.new result.after) result.answer }
         ensures inner { is_inner result.answer ≡ true → NothingDone buffers.old buffers.new state result × ((value_of result.answer ≡ self.entry.index) × (binary_kind ≤ word_at self.entry 0)) }
         ensures kept { Kept buffers.old buffers.new }
     {
@@ -265,26 +266,23 @@ impl NodeRef<'_> {
             let set = taken.set;
             // NONE where no register is free. As an Option it was slower: the flat nodes then took a few per cent more time.
             let register = number_at(taken.register);
-            let f = self.lower_flat(buffers, Counts::of(s), asked, register);
+            let f = self.lower_flat(buffers, s.counts, asked, register);
             // It was used if it is the answer: a flag would say that a second time.
             if f.answer == (register as u64) {
                 s.registers = set;
             }
             return f.on(s);
         }
-        AnswerAndState {
-            state: s,
-            answer: inner(self.index),
-        }
+        left_to_walk(s, self.index)
     }
 
     // A flat child in d; a block is its tail. Any other child is left to the walk, by the node that it comes to. `peek`, `peek_into` and `peek_jump` differ in what they
     // ask and give, and share the nodes' functions and their end: one function of all three would be those differences.
-    pub(crate) fn peek_into(self, buffers: &mut Buffers, state: State, d: u32) -> AnswerAndState
+    pub(crate) fn peek_into(self, buffers: &mut Buffers, state: State, d: u32) -> Stepped<State>
         requires { d < any }
         ensures done { is_inner result.answer ≡ false →
             settled (lower_materializing (lower_expression free_temp (arena_tree self.entry.arena.now) self.entry.index) (Some (register_at d)) (made_of buffers.old state))
-            ≡ seen (arena_tree self.entry.arena.now) register_at (made_of buffers.new result.state) result.answer }
+            ≡ seen (arena_tree self.entry.arena.now) register_at (made_of buffers.new result.after) result.answer }
         ensures inner { is_inner result.answer ≡ true → NothingDone buffers.old buffers.new state result × ((value_of result.answer ≤ self.entry.index) × (binary_kind ≤ node_word_of self.entry.arena.now.nodes.now (value_of result.answer) 0)) }
         ensures same { (e : Register) (m : Made) → is_inner result.answer ≡ true →
             lower_materializing (lower_expression free_temp (arena_tree self.entry.arena.now) self.entry.index) (Some e) m
@@ -296,64 +294,61 @@ impl NodeRef<'_> {
             index: self.tail_of(),
         };
         if tail.is_simple() {
-            let f = tail.lower_flat(buffers, Counts::of(state), Asked::Into, d);
+            let f = tail.lower_flat(buffers, state.counts, Asked::Into, d);
             return f.on(state);
         }
-        AnswerAndState {
-            state,
-            answer: inner(tail.index),
-        }
+        left_to_walk(state, tail.index)
     }
 
     // A name as a condition: the test of its own register. The jump's place is the answer.
     #[tactic(auto, using(steps::proofs::Words::refusal_start_lem))]
-    fn name_tested(self, buffers: &mut Buffers, counts: Counts, sense: bool) -> AnswerAndCounts
+    fn name_tested(self, buffers: &mut Buffers, counts: Counts, sense: bool) -> Stepped<Counts>
         requires { word_at self 0 ≡ name_kind }
         ensures step { (rs : RegisterSet) (n : ℕ) →
             settled (jump_node (arena_tree self.entry.arena.now) (lower_expression free_temp (arena_tree self.entry.arena.now)) sense (lower_expression free_temp (arena_tree self.entry.arena.now) self.entry.index) (tree_node self.entry)
             (made_of buffers.old (state_of rs counts n)))
-            ≡ seen (arena_tree self.entry.arena.now) place_at (made_of buffers.new (state_of rs result.counts n)) result.answer }
+            ≡ seen (arena_tree self.entry.arena.now) place_at (made_of buffers.new (state_of rs result.after n)) result.answer }
         ensures word { WordOrRefusal result.answer }
         ensures kept { Kept buffers.old buffers.new }
     {
         let Some(register) = self.arena.find(self.word(1)) else {
-            return counts.refused(Refusal::Undeclared, self.index);
+            return refused(counts, Refusal::Undeclared, self.index);
         };
         emit(buffers.code, counts, jump_if(sense), reg_of(register), 0, 0)
     }
 
     // A comparison of two leaves as a condition: the fused jump. Any other operator is left to the walk. What it has in common with `binary_into` are two calls.
     #[tactic(auto, using(steps::proofs::Words::is_inner_refusal, steps::proofs::Words::is_inner_inner, crate::proofs::FlatNodes::no_inner))]
-    fn compared_leaves(self, buffers: &mut Buffers, counts: Counts, sense: bool) -> AnswerAndCounts
+    fn compared_leaves(self, buffers: &mut Buffers, counts: Counts, sense: bool) -> Stepped<Counts>
         requires { word_at self 0 ≡ binary_kind }
         ensures step { (rs : RegisterSet) (n : ℕ) → is_inner result.answer ≡ false →
             settled (jump_node (arena_tree self.entry.arena.now) (lower_expression free_temp (arena_tree self.entry.arena.now)) sense (lower_expression free_temp (arena_tree self.entry.arena.now) self.entry.index) (tree_node self.entry) (made_of buffers.old (state_of rs counts n)))
-            ≡ seen (arena_tree self.entry.arena.now) place_at (made_of buffers.new (state_of rs result.counts n)) result.answer }
+            ≡ seen (arena_tree self.entry.arena.now) place_at (made_of buffers.new (state_of rs result.after n)) result.answer }
         ensures inner { is_inner result.answer ≡ true →
-            (result ≡ record { counts = counts; answer = word_end + self.entry.index }) × Untouched buffers.old buffers.new }
+            (result ≡ record { after = counts; answer = word_end + self.entry.index }) × Untouched buffers.old buffers.new }
         ensures kept { Kept buffers.old buffers.new }
     {
         let operator = BinaryOp::of(self.word(1));
         if !is_comparison(operator) {
-            return counts.left(self.index);
+            return left_to_walk(counts, self.index);
         }
         if !self.has_leaves() {
-            return counts.left(self.index);
+            return left_to_walk(counts, self.index);
         }
         match self.leaf_operands() {
             Ok((src1, src2)) => self.fused_jump(buffers, counts, sense, src1, src2),
-            Err(leaf) => counts.refused(Refusal::Undeclared, leaf),
+            Err(leaf) => refused(counts, Refusal::Undeclared, leaf),
         }
     }
 
     // A name, or a comparison of leaves, on two counts.
     #[tactic(auto, using(steps::proofs::Words::is_inner_inner, crate::proofs::FlatNodes::no_inner))]
-    fn flat_jump(self, buffers: &mut Buffers, counts: Counts, sense: bool) -> AnswerAndCounts
+    fn flat_jump(self, buffers: &mut Buffers, counts: Counts, sense: bool) -> Stepped<Counts>
         ensures step { (rs : RegisterSet) (n : ℕ) → is_inner result.answer ≡ false →
             settled (jump_node (arena_tree self.entry.arena.now) (lower_expression free_temp (arena_tree self.entry.arena.now)) sense (lower_expression free_temp (arena_tree self.entry.arena.now) self.entry.index) (tree_node self.entry) (made_of buffers.old (state_of rs counts n)))
-            ≡ seen (arena_tree self.entry.arena.now) place_at (made_of buffers.new (state_of rs result.counts n)) result.answer }
+            ≡ seen (arena_tree self.entry.arena.now) place_at (made_of buffers.new (state_of rs result.after n)) result.answer }
         ensures inner { is_inner result.answer ≡ true →
-            (result ≡ record { counts = counts; answer = word_end + self.entry.index }) × Untouched buffers.old buffers.new }
+            (result ≡ record { after = counts; answer = word_end + self.entry.index }) × Untouched buffers.old buffers.new }
         ensures kept { Kept buffers.old buffers.new }
     {
         let kind = self.kind();
@@ -361,7 +356,7 @@ impl NodeRef<'_> {
             return self.name_tested(buffers, counts, sense);
         }
         if kind != Kind::Binary {
-            return counts.left(self.index);
+            return left_to_walk(counts, self.index);
         }
         self.compared_leaves(buffers, counts, sense)
     }
@@ -372,14 +367,14 @@ impl NodeRef<'_> {
         buffers: &mut Buffers,
         state: State,
         sense: bool,
-    ) -> AnswerAndState
+    ) -> Stepped<State>
         ensures step { is_inner result.answer ≡ false →
             settled (jump_node (arena_tree self.entry.arena.now) (lower_expression free_temp (arena_tree self.entry.arena.now)) sense (lower_expression free_temp (arena_tree self.entry.arena.now) self.entry.index) (tree_node self.entry) (made_of buffers.old state))
-            ≡ seen (arena_tree self.entry.arena.now) place_at (made_of buffers.new result.state) result.answer }
+            ≡ seen (arena_tree self.entry.arena.now) place_at (made_of buffers.new result.after) result.answer }
         ensures inner { is_inner result.answer ≡ true → NothingDone buffers.old buffers.new state result }
         ensures kept { Kept buffers.old buffers.new }
     {
-        let f = self.flat_jump(buffers, Counts::of(state), sense);
+        let f = self.flat_jump(buffers, state.counts, sense);
         f.on(state)
     }
 
@@ -404,35 +399,35 @@ impl NodeRef<'_> {
         counts: Counts,
         d: u32,
         value: u32,
-    ) -> AnswerAndCounts
+    ) -> Stepped<Counts>
         requires { value ≢ absent → InArena self.arena.now.nodes.now value }
         ensures step { (rs : RegisterSet) (n : ℕ) → is_inner result.answer ≡ false →
             settled (lower_entry (arena_tree self.entry.arena.now) (lower_expression free_temp (arena_tree self.entry.arena.now)) (register_at d) self.entry.index value (name_of (tree_node self.entry)) (made_of buffers.old (state_of rs counts n)))
-            ≡ seen (arena_tree self.entry.arena.now) place_at (made_of buffers.new (state_of rs result.counts n)) result.answer }
+            ≡ seen (arena_tree self.entry.arena.now) place_at (made_of buffers.new (state_of rs result.after n)) result.answer }
         ensures inner { is_inner result.answer ≡ true →
-            (result ≡ record { counts = counts; answer = word_end + self.entry.index }) × (Untouched buffers.old buffers.new × (value ≢ absent)) }
+            (result ≡ record { after = counts; answer = word_end + self.entry.index }) × (Untouched buffers.old buffers.new × (value ≢ absent)) }
         ensures kept { Kept buffers.old buffers.new }
     {
         let kind = self.kind();
         if (kind != Kind::Identifier) & node_of(value).is_none() {
-            return counts.refused(Refusal::Key, self.index);
+            return refused(counts, Refusal::Key, self.index);
         }
         let child = NodeRef {
             arena: self.arena,
             index: value_or_key(self.index, value),
         };
         if !kind.is_leaf() | !child.kind().is_leaf() {
-            return counts.left(self.index);
+            return left_to_walk(counts, self.index);
         }
         let Some(src) = child.leaf_operand() else {
-            return counts.refused(Refusal::Undeclared, child.index);
+            return refused(counts, Refusal::Undeclared, child.index);
         };
         let first_field = store(buffers.constants, counts, self.key_operand());
         if is_refusal(first_field.answer) {
             return first_field;
         }
         let first = value_of(first_field.answer);
-        let pooled = first_field.counts;
+        let pooled = first_field.after;
         let second_field = field_of(buffers.constants, pooled, src, child.literal());
         if is_refusal(second_field.answer) {
             return second_field;
@@ -441,7 +436,7 @@ impl NodeRef<'_> {
         let opcode = set_opcode(LITERAL, src);
         emit(
             buffers.code,
-            second_field.counts,
+            second_field.after,
             opcode,
             reg_of(d),
             first,
@@ -457,12 +452,12 @@ impl NodeRef<'_> {
         d: u32,
         src1: u32,
         src2: u32,
-    ) -> AnswerAndCounts
+    ) -> Stepped<Counts>
         requires { word_at self 0 ≡ binary_kind }
         ensures step { (rs : RegisterSet) (n : ℕ) (E : ℕ → Option Register → Walk Operand) → eqb src1 literal_word && eqb src2 literal_word ≡ false →
             settled (binary_sources (λ x. ret tt) (arena_tree self.entry.arena.now) E (binary_op (word_at self.entry 1)) (word_at self.entry 2) (word_at self.entry 3) (register_at d)
             (source_at (literal (node_at (words self.entry.arena.now.nodes.now) (word_at self.entry 2))) src1) (source_at (literal (node_at (words self.entry.arena.now.nodes.now) (word_at self.entry 3))) src2) (made_of buffers.old (state_of rs counts n)))
-            ≡ seen (arena_tree self.entry.arena.now) (λ w. Operand.Register (register_at w)) (made_of buffers.new (state_of rs result.counts n)) result.answer }
+            ≡ seen (arena_tree self.entry.arena.now) (λ w. Operand.Register (register_at w)) (made_of buffers.new (state_of rs result.after n)) result.answer }
         ensures word { DestOrRefusal d result.answer }
         ensures kept { Kept buffers.old buffers.new }
     {
@@ -486,13 +481,13 @@ impl NodeRef<'_> {
         sense: bool,
         src1: u32,
         src2: u32,
-    ) -> AnswerAndCounts
+    ) -> Stepped<Counts>
         requires { word_at self 0 ≡ binary_kind }
         ensures step { (rs : RegisterSet) (n : ℕ) (E : ℕ → Option Register → Walk Operand) (own : Option Register → Walk Operand) (c : Comparison) →
             eqb src1 literal_word && eqb src2 literal_word ≡ false → comparison (binary_op (word_at self.entry 1)) ≡ Some c →
             settled (fused_sources (arena_tree self.entry.arena.now) E sense own c
             (source_at (literal (node_at (words self.entry.arena.now.nodes.now) (word_at self.entry 2))) src1) (source_at (literal (node_at (words self.entry.arena.now.nodes.now) (word_at self.entry 3))) src2) (made_of buffers.old (state_of rs counts n)))
-            ≡ seen (arena_tree self.entry.arena.now) place_at (made_of buffers.new (state_of rs result.counts n)) result.answer }
+            ≡ seen (arena_tree self.entry.arena.now) place_at (made_of buffers.new (state_of rs result.after n)) result.answer }
         ensures word { WordOrRefusal result.answer }
         ensures kept { Kept buffers.old buffers.new }
     {

@@ -22,18 +22,18 @@ ghost use Rattle.codegen.specs.Roots.{conditional};
 use crate::arena::{Arena, Buffers, NodeRef};
 use crate::flat::Asked;
 use environment::RegisterSet;
-use lowering::State;
+use lowering::{Counts, State};
 use patch::patch_arguments;
 use questions::check;
 use result::{Result, refused_result, result_of};
 use runtime::opcode::Opcode;
-use steps::answer::{AnswerAndState, answered, is_refusal, refused, reg_of, value_of};
+use steps::answer::{Stepped, answered, is_refusal, refused, reg_of, value_of};
 use steps::step::emit;
 
 // The arguments patched, and then the answer.
-fn patch_and_answer(code: &mut [u8], marks: &mut [u8], state: State, place: u32) -> AnswerAndState
+fn patch_and_answer(code: &mut [u8], marks: &mut [u8], state: State, place: u32) -> Stepped<State>
     ensures step { (t : Tree) (p : List ℕ) → settled (bind (patch_arguments (made (words code.old) p (words marks.old) state)) (λ x. ret place))
-        ≡ seen t place_at (made (words code.new) p (words marks.new) result.state) result.answer }
+        ≡ seen t place_at (made (words code.new) p (words marks.new) result.after) result.answer }
     ensures tail { tail code.new ≡ tail code.old }
 {
     match patch_arguments(code, marks, state.marks, state.registers.frame_size) {
@@ -44,7 +44,7 @@ fn patch_and_answer(code: &mut [u8], marks: &mut [u8], state: State, place: u32)
 
 impl NodeRef<'_> {
     // Mode 0: the root's value, returned.
-    fn lower_value(self, buffers: &mut Buffers, state: State) -> AnswerAndState
+    fn lower_value(self, buffers: &mut Buffers, state: State) -> Stepped<State>
         ensures lowers { Walks (λ t. place_at) (λ t. lower_root free_temp t 0 self.entry.index) self.entry.arena.now buffers.old buffers.new state result }
         ensures kept { Kept buffers.old buffers.new }
     {
@@ -54,17 +54,17 @@ impl NodeRef<'_> {
             return r;
         }
         let src = value_of(r.answer);
-        let s1 = r.state;
+        let s1 = r.after;
         let e = emit(buffers.code, s1, Opcode::Return, reg_of(src), 0, 0);
         if is_refusal(e.answer) {
             return e;
         }
-        let s = e.state;
+        let s = e.after;
         patch_and_answer(buffers.code, buffers.marks, s, 0)
     }
 
     // Modes 1 and 2: the root as a condition. The answer is the jump's place.
-    fn lower_condition(self, buffers: &mut Buffers, state: State, sense: bool) -> AnswerAndState
+    fn lower_condition(self, buffers: &mut Buffers, state: State, sense: bool) -> Stepped<State>
         ensures lowers { Walks (λ t. place_at) (λ t. conditional t sense self.entry.index) self.entry.arena.now buffers.old buffers.new state result }
         ensures kept { Kept buffers.old buffers.new }
     {
@@ -72,13 +72,13 @@ impl NodeRef<'_> {
         if is_refusal(r.answer) {
             return r;
         }
-        let s = r.state;
+        let s = r.after;
         patch_and_answer(buffers.code, buffers.marks, s, value_of(r.answer))
     }
 
     // The root by its mode. A mode stays a number here: it is matched once, and an enum would need that match to be made, where the definition of `lower_root` matches on
     // the number.
-    fn lower_root(self, buffers: &mut Buffers, state: State, mode: u32) -> AnswerAndState
+    fn lower_root(self, buffers: &mut Buffers, state: State, mode: u32) -> Stepped<State>
         ensures lowers { Walks (λ t. place_at) (λ t. lower_root free_temp t mode self.entry.index) self.entry.arena.now buffers.old buffers.new state result }
         ensures kept { Kept buffers.old buffers.new }
     {
@@ -101,7 +101,7 @@ fn lower_lent(
     state: State,
     mode: u32,
     root: u32,
-) -> AnswerAndState
+) -> Stepped<State>
     requires { Ready nodes.now list.now names.now root }
     ensures { Lowers (λ t. place_at) (λ t. lower_root free_temp t mode root) nodes.now list.now names.now
         code.old constants.old marks.old code.new constants.new marks.new state result }
@@ -140,8 +140,10 @@ fn lower_checked(
     let registers = RegisterSet::with_parameters(arity);
     let state = State {
         registers,
-        instructions: 0,
-        constants: 0,
+        counts: Counts {
+            instructions: 0,
+            constants: 0,
+        },
         marks: 0,
     };
     let whole_code = code.len() / 4 * 4;

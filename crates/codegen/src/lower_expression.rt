@@ -31,9 +31,9 @@ use patch::mark_argument;
 use runtime::opcode::Opcode;
 use runtime::operand::Operand;
 use steps::answer::{
-    AnswerAndState, LITERAL, answered, is_inner, is_refusal, local, refused, reg_of, value_of,
+    LITERAL, Stepped, answered, is_inner, is_refusal, local, refused, reg_of, value_of,
 };
-use steps::counted::{self, Counts};
+use steps::counted;
 use steps::sources::{field_of, first_of};
 use steps::step::{destination, emit, given_back, load_constant, patch_to_next, store};
 use syntax::ast::node_of;
@@ -50,7 +50,7 @@ impl NodeRef<'_> {
         buffers: &mut Buffers,
         state: State,
         dest: Option<u32>,
-    ) -> AnswerAndState
+    ) -> Stepped<State>
         requires { Aimed dest }
         ensures lowers { Walks (λ t. operand_at (node_at t.nodes self.entry.index)) (λ t. lower_expression free_temp t self.entry.index (dest_of dest)) self.entry.arena.now buffers.old buffers.new state result }
         ensures kept { Kept buffers.old buffers.new }
@@ -89,9 +89,9 @@ impl NodeRef<'_> {
         self,
         buffers: &mut Buffers,
         state: State,
-        peeked: AnswerAndState,
+        peeked: Stepped<State>,
         dest: Option<u32>,
-    ) -> AnswerAndState
+    ) -> Stepped<State>
         requires { is_inner peeked.answer ≡ true → ((value_of peeked.answer ≤ self.index) × Aimed dest) }
         ensures walked { is_inner peeked.answer ≡ true → Walks (λ t. operand_at (node_at t.nodes (value_of peeked.answer))) (λ t. lower_expression free_temp t (value_of peeked.answer) (dest_of dest)) self.entry.arena.now buffers.old buffers.new state result }
         ensures done { is_inner peeked.answer ≡ false → (result ≡ peeked) × Untouched buffers.old buffers.new }
@@ -110,19 +110,19 @@ impl NodeRef<'_> {
     }
 
     // Name: its own register, or a Move if another destination was given. Takes nothing.
-    fn lower_name(self, buffers: &mut Buffers, state: State, dest: Option<u32>) -> AnswerAndState
+    fn lower_name(self, buffers: &mut Buffers, state: State, dest: Option<u32>) -> Stepped<State>
         requires { (word_at self 0 ≡ name_kind) × Aimed dest }
         ensures lowers { settled (lower_expression free_temp (arena_tree self.entry.arena.now) self.entry.index (dest_of dest) (made_of buffers.old state))
-            ≡ seen (arena_tree self.entry.arena.now) (operand_at (tree_node self.entry)) (made_of buffers.new result.state) result.answer }
+            ≡ seen (arena_tree self.entry.arena.now) (operand_at (tree_node self.entry)) (made_of buffers.new result.after) result.answer }
         ensures kept { Kept buffers.old buffers.new }
     {
-        let f = self.name_into(buffers, Counts::of(state), dest);
+        let f = self.name_into(buffers, state.counts, dest);
         f.on(state)
     }
 
     // Binary: destination first, left, right, then constants pooled, one instruction. Gives back what the operands held.
     #[cycle(walk)]
-    fn lower_binary(self, buffers: &mut Buffers, state: State, dest: Option<u32>) -> AnswerAndState
+    fn lower_binary(self, buffers: &mut Buffers, state: State, dest: Option<u32>) -> Stepped<State>
         requires { Aimed dest × (word_at self 0 ≡ binary_kind) }
         ensures lowers { Walks (λ t. operand_at (node_at t.nodes self.entry.index)) (λ t. lower_expression free_temp t self.entry.index (dest_of dest)) self.entry.arena.now buffers.old buffers.new state result }
         ensures kept { Kept buffers.old buffers.new }
@@ -140,30 +140,30 @@ impl NodeRef<'_> {
             return t;
         }
         let d = value_of(t.answer);
-        let s1 = t.state;
+        let s1 = t.after;
         let f1 = left.peek(buffers, s1, Asked::Operand);
         let r1 = left.lower_materializing(buffers, s1, f1, None);
         if is_refusal(r1.answer) {
             return r1;
         }
         let src1 = value_of(r1.answer);
-        let s2 = r1.state;
+        let s2 = r1.after;
         let f2 = right.peek(buffers, s2, Asked::Operand);
         let r2 = right.lower_materializing(buffers, s2, f2, None);
         if is_refusal(r2.answer) {
             return r2;
         }
         let src2 = value_of(r2.answer);
-        let s3 = r2.state;
+        let s3 = r2.after;
         if (src1 == LITERAL) & (src2 == LITERAL) {
             return self.lower_literals(buffers, s3, d);
         }
-        let f = self.binary_operation(buffers, Counts::of(s3), d, src1, src2);
+        let f = self.binary_operation(buffers, s3.counts, d, src1, src2);
         let e = f.on(s3);
         if is_refusal(e.answer) {
             return e;
         }
-        let mut s = e.state;
+        let mut s = e.after;
         let held = s.registers;
         let held1 = held.give_back(src1);
         let held2 = held1.give_back(src2);
@@ -173,10 +173,10 @@ impl NodeRef<'_> {
 
     // Binary, "Two literals are both loaded": each into a register that is taken, both given back. The last lines are those of `lower_binary` again: with one function
     // for both ends, bushy trees took a tenth more time.
-    fn lower_literals(self, buffers: &mut Buffers, state: State, d: u32) -> AnswerAndState
+    fn lower_literals(self, buffers: &mut Buffers, state: State, d: u32) -> Stepped<State>
         requires { word_at self 0 ≡ binary_kind }
         ensures by_index { settled (lower_literals (arena_tree self.entry.arena.now) (binary_op (word_at self.entry 1)) (word_at self.entry 2) (word_at self.entry 3) (register_at d) (made_of buffers.old state))
-            ≡ seen (arena_tree self.entry.arena.now) (λ w. Operand.Register (register_at w)) (made_of buffers.new result.state) result.answer }
+            ≡ seen (arena_tree self.entry.arena.now) (λ w. Operand.Register (register_at w)) (made_of buffers.new result.after) result.answer }
         ensures word { DestOrRefusal d result.answer }
         ensures kept { Kept buffers.old buffers.new }
     {
@@ -192,13 +192,13 @@ impl NodeRef<'_> {
         if is_refusal(r1.answer) {
             return r1;
         }
-        let s1 = r1.state;
+        let s1 = r1.after;
         let src1 = value_of(r1.answer);
         let r2 = load_constant(buffers.code, buffers.constants, s1, right.literal(), None);
         if is_refusal(r2.answer) {
             return r2;
         }
-        let s2 = r2.state;
+        let s2 = r2.after;
         let src2 = value_of(r2.answer);
         let operator = BinaryOp::of(self.word(1));
         let swap = swaps(operator);
@@ -208,7 +208,7 @@ impl NodeRef<'_> {
         if is_refusal(e.answer) {
             return e;
         }
-        let mut s = e.state;
+        let mut s = e.after;
         let held = s.registers;
         let held1 = held.give_back(src1);
         let held2 = held1.give_back(src2);
@@ -240,7 +240,7 @@ impl NodeRef<'_> {
 
     // Unary, not: destination, operand, one instruction. Gives back what the operand held.
     #[cycle(walk)]
-    fn lower_unary(self, buffers: &mut Buffers, state: State, dest: Option<u32>) -> AnswerAndState
+    fn lower_unary(self, buffers: &mut Buffers, state: State, dest: Option<u32>) -> Stepped<State>
         requires { Aimed dest × ((word_at self 0 ≡ unary_kind) ⊎ (word_at self 0 ≡ not_kind)) }
         ensures lowers { Walks (λ t. operand_at (node_at t.nodes self.entry.index)) (λ t. lower_expression free_temp t self.entry.index (dest_of dest)) self.entry.arena.now buffers.old buffers.new state result }
         ensures kept { Kept buffers.old buffers.new }
@@ -254,20 +254,20 @@ impl NodeRef<'_> {
             return t;
         }
         let d = value_of(t.answer);
-        let s1 = t.state;
+        let s1 = t.after;
         let f1 = operand.peek(buffers, s1, Asked::Register);
         let r1 = operand.lower_materializing(buffers, s1, f1, None);
         if is_refusal(r1.answer) {
             return r1;
         }
         let src = value_of(r1.answer);
-        let s = r1.state;
+        let s = r1.after;
         let opcode = self.only_opcode();
         let e = emit(buffers.code, s, opcode, reg_of(d), reg_of(src), 0);
         if is_refusal(e.answer) {
             return e;
         }
-        answered(given_back(e.state, src), d)
+        answered(given_back(e.after, src), d)
     }
 
     // The jump over the right side of and, or.
@@ -284,7 +284,7 @@ impl NodeRef<'_> {
 
     // And, or: left into the destination, jump, right into the same. Gives nothing back.
     #[cycle(walk)]
-    fn logical(self, buffers: &mut Buffers, state: State, dest: Option<u32>) -> AnswerAndState
+    fn logical(self, buffers: &mut Buffers, state: State, dest: Option<u32>) -> Stepped<State>
         requires { Aimed dest × ((word_at self 0 ≡ and_kind) ⊎ (word_at self 0 ≡ or_kind)) }
         ensures lowers { Walks (λ t. operand_at (node_at t.nodes self.entry.index)) (λ t. lower_expression free_temp t self.entry.index (dest_of dest)) self.entry.arena.now buffers.old buffers.new state result }
         ensures kept { Kept buffers.old buffers.new }
@@ -302,33 +302,33 @@ impl NodeRef<'_> {
             return t;
         }
         let d = value_of(t.answer);
-        let s1 = t.state;
+        let s1 = t.after;
         let f1 = left.peek_into(buffers, s1, d);
         let r1 = left.lower_materializing(buffers, s1, f1, Some(d));
         if is_refusal(r1.answer) {
             return r1;
         }
-        let s1 = r1.state;
+        let s1 = r1.after;
         let opcode = self.logical_jump();
         let e = emit(buffers.code, s1, opcode, reg_of(d), 0, 0);
         if is_refusal(e.answer) {
             return e;
         }
-        let s = e.state;
+        let s = e.after;
         let place = value_of(e.answer);
         let f2 = right.peek_into(buffers, s, d);
         let r2 = right.lower_materializing(buffers, s, f2, Some(d));
         if is_refusal(r2.answer) {
             return r2;
         }
-        let s2 = r2.state;
-        patch_to_next(buffers.code, place, s2.instructions);
+        let s2 = r2.after;
+        patch_to_next(buffers.code, place, s2.counts.instructions);
         answered(s2, d)
     }
 
     // If: condition, destination, then, jump, else. What the condition holds stays held.
     #[cycle(walk)]
-    fn lower_if(self, buffers: &mut Buffers, state: State, dest: Option<u32>) -> AnswerAndState
+    fn lower_if(self, buffers: &mut Buffers, state: State, dest: Option<u32>) -> Stepped<State>
         requires { Aimed dest × (word_at self 0 ≡ if_kind) }
         ensures lowers { Walks (λ t. operand_at (node_at t.nodes self.entry.index)) (λ t. lower_expression free_temp t self.entry.index (dest_of dest)) self.entry.arena.now buffers.old buffers.new state result }
         ensures kept { Kept buffers.old buffers.new }
@@ -346,26 +346,26 @@ impl NodeRef<'_> {
             return r;
         }
         let jump_if_false = value_of(r.answer);
-        let s0 = r.state;
+        let s0 = r.after;
         let t = destination(s0, dest);
         if is_refusal(t.answer) {
             return t;
         }
         let d = value_of(t.answer);
-        let s1 = t.state;
+        let s1 = t.after;
         let f1 = then_branch.peek_into(buffers, s1, d);
         let r1 = then_branch.lower_materializing(buffers, s1, f1, Some(d));
         if is_refusal(r1.answer) {
             return r1;
         }
-        let s2 = r1.state;
+        let s2 = r1.after;
         let e = emit(buffers.code, s2, Opcode::Jump, 0, 0, 0);
         if is_refusal(e.answer) {
             return e;
         }
-        let s = e.state;
+        let s = e.after;
         let jump_end = value_of(e.answer);
-        patch_to_next(buffers.code, jump_if_false, s.instructions);
+        patch_to_next(buffers.code, jump_if_false, s.counts.instructions);
         let Some(index) = node_of(self.word(3)) else {
             return refused(s, Refusal::Else, self.index);
         };
@@ -378,14 +378,14 @@ impl NodeRef<'_> {
         if is_refusal(r2.answer) {
             return r2;
         }
-        let s2 = r2.state;
-        patch_to_next(buffers.code, jump_end, s2.instructions);
+        let s2 = r2.after;
+        patch_to_next(buffers.code, jump_end, s2.counts.instructions);
         answered(s2, d)
     }
 
     // Block: destination, then the tail or nil.
     #[cycle(walk)]
-    fn lower_block(self, buffers: &mut Buffers, state: State, dest: Option<u32>) -> AnswerAndState
+    fn lower_block(self, buffers: &mut Buffers, state: State, dest: Option<u32>) -> Stepped<State>
         requires { Aimed dest × (word_at self 0 ≡ block_kind) }
         ensures lowers { Walks (λ t. operand_at (node_at t.nodes self.entry.index)) (λ t. lower_expression free_temp t self.entry.index (dest_of dest)) self.entry.arena.now buffers.old buffers.new state result }
         ensures kept { Kept buffers.old buffers.new }
@@ -395,14 +395,14 @@ impl NodeRef<'_> {
             return t;
         }
         let d = value_of(t.answer);
-        let s = t.state;
+        let s = t.after;
         let Some(index) = node_of(self.word(1)) else {
             let u = s;
             let r = load_constant(buffers.code, buffers.constants, u, Operand::Nil, Some(d));
             if is_refusal(r.answer) {
                 return r;
             }
-            let s1 = r.state;
+            let s1 = r.after;
             return answered(s1, d);
         };
         let tail = NodeRef {
@@ -414,13 +414,13 @@ impl NodeRef<'_> {
         if is_refusal(r1.answer) {
             return r1;
         }
-        let s2 = r1.state;
+        let s2 = r1.after;
         answered(s2, d)
     }
 
     // Call: the arguments; then destination, callee, Call. Gives back what the callee held.
     #[cycle(walk)]
-    fn lower_call(self, buffers: &mut Buffers, state: State, dest: Option<u32>) -> AnswerAndState
+    fn lower_call(self, buffers: &mut Buffers, state: State, dest: Option<u32>) -> Stepped<State>
         requires { Aimed dest × (word_at self 0 ≡ call_kind) }
         ensures lowers { Walks (λ t. operand_at (node_at t.nodes self.entry.index)) (λ t. lower_expression free_temp t self.entry.index (dest_of dest)) self.entry.arena.now buffers.old buffers.new state result }
         ensures kept { Kept buffers.old buffers.new }
@@ -434,30 +434,30 @@ impl NodeRef<'_> {
         if is_refusal(a.answer) {
             return a;
         }
-        let s0 = a.state;
+        let s0 = a.after;
         let t = destination(s0, dest);
         if is_refusal(t.answer) {
             return t;
         }
         let d = value_of(t.answer);
-        let s1 = t.state;
+        let s1 = t.after;
         let f1 = callee.peek(buffers, s1, Asked::Register);
         let r1 = callee.lower_materializing(buffers, s1, f1, None);
         if is_refusal(r1.answer) {
             return r1;
         }
         let src = value_of(r1.answer);
-        let s = r1.state;
+        let s = r1.after;
         let e = emit(buffers.code, s, Opcode::Call, reg_of(d), reg_of(src), count);
         if is_refusal(e.answer) {
             return e;
         }
-        answered(given_back(e.state, src), d)
+        answered(given_back(e.after, src), d)
     }
 
     // The arguments of a call: argument i into local i, and the last instruction marked.
     #[cycle(walk)]
-    fn arguments(self, buffers: &mut Buffers, state: State) -> AnswerAndState
+    fn arguments(self, buffers: &mut Buffers, state: State) -> Stepped<State>
         requires { word_at self 0 ≡ call_kind }
         ensures lowers { Walks (λ t. unit_at) (λ t. lower_arguments t (lower_expression free_temp t) self.entry.index (word_at self.entry 2) (word_at self.entry 3) 0) self.entry.arena.now buffers.old buffers.new state result }
         ensures kept { Kept buffers.old buffers.new }
@@ -476,13 +476,13 @@ impl NodeRef<'_> {
             if is_refusal(r1.answer) {
                 return r1;
             }
-            let s1 = r1.state;
+            let s1 = r1.after;
             s = s1;
             // Asked here and in `mark_argument`: this refusal names the call.
-            if s.instructions == 0 {
+            if s.counts.instructions == 0 {
                 return refused(s, Refusal::Unmarked, self.index);
             }
-            let marked = mark_argument(buffers.marks, s.marks, s.instructions);
+            let marked = mark_argument(buffers.marks, s.marks, s.counts.instructions);
             let Ok(_) = marked.place else {
                 return refused(s, Refusal::Marks, 0);
             };
@@ -493,7 +493,7 @@ impl NodeRef<'_> {
 
     // Property: destination, object, key pooled. Gives back what the object held.
     #[cycle(walk)]
-    fn property(self, buffers: &mut Buffers, state: State, dest: Option<u32>) -> AnswerAndState
+    fn property(self, buffers: &mut Buffers, state: State, dest: Option<u32>) -> Stepped<State>
         requires { Aimed dest × (word_at self 0 ≡ property_kind) }
         ensures lowers { Walks (λ t. operand_at (node_at t.nodes self.entry.index)) (λ t. lower_expression free_temp t self.entry.index (dest_of dest)) self.entry.arena.now buffers.old buffers.new state result }
         ensures kept { Kept buffers.old buffers.new }
@@ -508,20 +508,20 @@ impl NodeRef<'_> {
             return t;
         }
         let d = value_of(t.answer);
-        let s1 = t.state;
+        let s1 = t.after;
         let f1 = object.peek(buffers, s1, Asked::Register);
         let r1 = object.lower_materializing(buffers, s1, f1, None);
         if is_refusal(r1.answer) {
             return r1;
         }
         let src = value_of(r1.answer);
-        let s = r1.state;
+        let s = r1.after;
         let p = store(buffers.constants, s, Operand::String(property));
         if is_refusal(p.answer) {
             return p;
         }
         let k = value_of(p.answer);
-        let s2 = p.state;
+        let s2 = p.after;
         let e = emit(
             buffers.code,
             s2,
@@ -533,12 +533,12 @@ impl NodeRef<'_> {
         if is_refusal(e.answer) {
             return e;
         }
-        answered(given_back(e.state, src), d)
+        answered(given_back(e.after, src), d)
     }
 
     // Map: CreateMap, then entry by entry. What the entries hold stays held.
     #[cycle(walk)]
-    fn lower_map(self, buffers: &mut Buffers, state: State, dest: Option<u32>) -> AnswerAndState
+    fn lower_map(self, buffers: &mut Buffers, state: State, dest: Option<u32>) -> Stepped<State>
         requires { Aimed dest × (word_at self 0 ≡ map_kind) }
         ensures lowers { Walks (λ t. operand_at (node_at t.nodes self.entry.index)) (λ t. lower_expression free_temp t self.entry.index (dest_of dest)) self.entry.arena.now buffers.old buffers.new state result }
         ensures kept { Kept buffers.old buffers.new }
@@ -550,12 +550,12 @@ impl NodeRef<'_> {
             return t;
         }
         let d = value_of(t.answer);
-        let s0 = t.state;
+        let s0 = t.after;
         let e = emit(buffers.code, s0, Opcode::CreateMap, reg_of(d), 0, 0);
         if is_refusal(e.answer) {
             return e;
         }
-        let mut s = e.state;
+        let mut s = e.after;
         for i in 0..count {
             let at = first + 2 * (i as usize);
             let key = NodeRef {
@@ -563,7 +563,7 @@ impl NodeRef<'_> {
                 index: word(self.arena.list, at),
             };
             let value = word(self.arena.list, at + 1);
-            let f = key.flat_entry(buffers, Counts::of(s), d, value);
+            let f = key.flat_entry(buffers, s.counts, d, value);
             let answer = f.answer;
             if is_inner(answer) {
                 let u = s;
@@ -571,13 +571,12 @@ impl NodeRef<'_> {
                 if is_refusal(r.answer) {
                     return r;
                 }
-                let s1 = r.state;
+                let s1 = r.after;
                 s = s1;
             } else {
-                s.instructions = f.counts.instructions;
-                s.constants = f.counts.constants;
+                s.counts = f.after;
                 if is_refusal(answer) {
-                    return AnswerAndState { state: s, answer };
+                    return Stepped { after: s, answer };
                 }
             }
         }
@@ -594,7 +593,7 @@ impl NodeRef<'_> {
         d: u32,
         key: u32,
         value: u32,
-    ) -> AnswerAndState
+    ) -> Stepped<State>
         requires { EntryBelow self.index key value }
         ensures lowers { Walks (λ t. place_at) (λ t. lower_entry t (lower_expression free_temp t) (register_at d) key value (name_of (node_at t.nodes key))) self.entry.arena.now buffers.old buffers.new state result }
         ensures kept { Kept buffers.old buffers.new }
@@ -613,7 +612,7 @@ impl NodeRef<'_> {
             if is_refusal(r1.answer) {
                 return r1;
             }
-            let s1 = r1.state;
+            let s1 = r1.after;
             let src = value_of(r1.answer);
             return key.set_property(buffers, s1, d, value, LITERAL, src);
         }
@@ -623,14 +622,14 @@ impl NodeRef<'_> {
             return r2;
         }
         let src1 = value_of(r2.answer);
-        let s2 = r2.state;
+        let s2 = r2.after;
         let f3 = value.peek(buffers, s2, Asked::Operand);
         let r3 = value.lower_materializing(buffers, s2, f3, None);
         if is_refusal(r3.answer) {
             return r3;
         }
         let src2 = value_of(r3.answer);
-        let s3 = r3.state;
+        let s3 = r3.after;
         key.set_property(buffers, s3, d, value, src1, src2)
     }
 
@@ -643,19 +642,19 @@ impl NodeRef<'_> {
         value: NodeRef,
         src1: u32,
         src2: u32,
-    ) -> AnswerAndState
+    ) -> Stepped<State>
         ensures lowers { (t : Tree) (E : ℕ → Option Register → Walk Operand) → settled (store_keyed t E (register_at d) (source_at (key_operand (tree_node self.entry)) src1) (source_at (literal (tree_node value.entry)) src2)
             (made_of buffers.old state))
-            ≡ seen t place_at (made_of buffers.new result.state) result.answer }
+            ≡ seen t place_at (made_of buffers.new result.after) result.answer }
         ensures kept { Kept buffers.old buffers.new }
     {
-        let counts = Counts::of(state);
+        let counts = state.counts;
         let first_field = field_of(buffers.constants, counts, src1, self.key_operand());
         if is_refusal(first_field.answer) {
             return first_field.on(state);
         }
         let first = value_of(first_field.answer);
-        let pooled = first_field.counts;
+        let pooled = first_field.after;
         let second_field = field_of(buffers.constants, pooled, src2, value.literal());
         if is_refusal(second_field.answer) {
             return second_field.on(state);
@@ -664,7 +663,7 @@ impl NodeRef<'_> {
         let opcode = set_opcode(src1, src2);
         let e = counted::emit(
             buffers.code,
-            second_field.counts,
+            second_field.after,
             opcode,
             reg_of(d),
             first,
@@ -675,7 +674,7 @@ impl NodeRef<'_> {
 
     // A node as a condition: the place of the jump that is taken where it is false. What it holds stays held.
     #[cycle(walk)]
-    fn lower_jump_if_false(self, buffers: &mut Buffers, state: State) -> AnswerAndState
+    fn lower_jump_if_false(self, buffers: &mut Buffers, state: State) -> Stepped<State>
         ensures lowers { Walks (λ t. place_at) (λ t. lower_jump_if_false free_temp t self.entry.index) self.entry.arena.now buffers.old buffers.new state result }
         ensures kept { Kept buffers.old buffers.new }
     {
@@ -695,7 +694,7 @@ impl NodeRef<'_> {
         buffers: &mut Buffers,
         state: State,
         sense: bool,
-    ) -> AnswerAndState
+    ) -> Stepped<State>
         ensures lowers { Walks (λ t. place_at) (λ t. jump_node t (lower_expression free_temp t) sense (lower_expression free_temp t self.entry.index) (node_at t.nodes self.entry.index)) self.entry.arena.now buffers.old buffers.new state result }
         ensures kept { Kept buffers.old buffers.new }
     {
@@ -718,7 +717,7 @@ impl NodeRef<'_> {
 
     // A node in a register, then JumpIfFalse or JumpIfTrue. Its place is the answer.
     #[cycle(walk)]
-    fn test(self, buffers: &mut Buffers, state: State, sense: bool) -> AnswerAndState
+    fn test(self, buffers: &mut Buffers, state: State, sense: bool) -> Stepped<State>
         ensures lowers { Walks (λ t. place_at) (λ t. test t (lower_expression free_temp t) sense (lower_expression free_temp t self.entry.index)) self.entry.arena.now buffers.old buffers.new state result }
         ensures kept { Kept buffers.old buffers.new }
     {
@@ -732,13 +731,13 @@ impl NodeRef<'_> {
             return r;
         }
         let src = value_of(r.answer);
-        let s = r.state;
+        let s = r.after;
         emit(buffers.code, s, jump_if(sense), reg_of(src), 0, 0)
     }
 
     // Left, right, constants pooled, one fused jump; two literals are tested like anything else. No destination is taken, nothing is given back.
     #[cycle(walk)]
-    fn fuse(self, buffers: &mut Buffers, state: State, sense: bool) -> AnswerAndState
+    fn fuse(self, buffers: &mut Buffers, state: State, sense: bool) -> Stepped<State>
         requires { is_compared (tree_node self) ≡ true }
         ensures lowers { Walks (λ t. place_at) (λ t. jump_node t (lower_expression free_temp t) sense (lower_expression free_temp t self.entry.index) (node_at t.nodes self.entry.index)) self.entry.arena.now buffers.old buffers.new state result }
         ensures kept { Kept buffers.old buffers.new }
@@ -758,19 +757,19 @@ impl NodeRef<'_> {
             return r1;
         }
         let src1 = value_of(r1.answer);
-        let s1 = r1.state;
+        let s1 = r1.after;
         let f2 = right.peek(buffers, s1, Asked::Operand);
         let r2 = right.lower_materializing(buffers, s1, f2, None);
         if is_refusal(r2.answer) {
             return r2;
         }
         let src2 = value_of(r2.answer);
-        let s = r2.state;
+        let s = r2.after;
         if (src1 == LITERAL) & (src2 == LITERAL) {
             let u = s;
             return self.test(buffers, u, sense);
         }
-        let f = self.fused_jump(buffers, Counts::of(s), sense, src1, src2);
+        let f = self.fused_jump(buffers, s.counts, sense, src1, src2);
         f.on(s)
     }
 }

@@ -32,7 +32,7 @@ abbrev pub arity : Accepted → ℕ
 arity a = length a.tree.names
 
 abbrev pub instructions : Accepted → ℕ
-instructions a = a.left.state.instructions
+instructions a = a.left.state.counts.instructions
 
 -- n records of w words of `part` are those of `whole` from record `base` on
 abbrev pub StandsIn : ℕ → List ℕ → ℕ → List ℕ → ℕ → ℕ → Type 0
@@ -46,7 +46,7 @@ pub record Setting (a : Accepted) : Type 1 where
   pub code_stands : StandsIn instruction_width a.left.code (instructions a) code count base
   pub pool : List ℕ
   pub pooled : ℕ
-  pub pool_stands : StandsIn constant_width a.left.constants a.left.state.constants pool pooled 0
+  pub pool_stands : StandsIn constant_width a.left.constants a.left.state.counts.constants pool pooled 0
   pub operators : Operators
   pub hypotheses : Hypotheses operators
   pub parameters : ℕ → operators.Value
@@ -138,4 +138,4 @@ RunningLaw = (nodes list names : List ℕ) (root : ℕ) (code constants marks : 
 module _ (a : Accepted) where
   -- what an accepted walk leaves, as `lower` shows it
   abbrev pub as_lowered : Lowered
-  as_lowered = lowered (result 0 a.answer 0 0 (instructions a) a.left.state.constants a.left.state.registers.frame_size (arity a)) a.left
+  as_lowered = lowered (result 0 a.answer 0 0 (instructions a) a.left.state.counts.constants a.left.state.registers.frame_size (arity a)) a.left

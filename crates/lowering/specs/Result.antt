@@ -38,7 +38,7 @@ pub record Lowered : Type 0 where
 
 -- nothing made yet but the parameters' registers; the pool may hold constants already
 unfoldable pub begin : List ℕ → List ℕ → List ℕ → ℕ → ℕ → Made
-begin code constants marks pooled arity = made code constants marks (record { registers = parameters arity; instructions = 0; constants = pooled; marks = 0 })
+begin code constants marks pooled arity = made code constants marks (record { registers = parameters arity; counts = record { instructions = 0; constants = pooled }; marks = 0 })
 
 -- "Modes: 0 value, 1 jump if false, 2 jump if true." It answers the jump's place; in mode 0, which has no jump, 0. A mode past
 -- 2, which question 2 refuses, reads as 2.
@@ -75,8 +75,8 @@ lowered r m = record { result = r; code = m.code; constants = m.constants; marks
 
 -- "In modes 1 and 2 an accepted place is the jump's; otherwise 0." "On refusal the last two are 0."
 unfoldable pub lowered_of : ℕ → Outcome ℕ → Lowered
-lowered_of arity (ends place m) = lowered (result 0 place 0 0 m.state.instructions m.state.constants m.state.registers.frame_size arity) m
-lowered_of arity (stops e m) = lowered (result (refusal_number e.refusal) e.place e.start e.end m.state.instructions m.state.constants 0 0) m
+lowered_of arity (ends place m) = lowered (result 0 place 0 0 m.state.counts.instructions m.state.counts.constants m.state.registers.frame_size arity) m
+lowered_of arity (stops e m) = lowered (result (refusal_number e.refusal) e.place e.start e.end m.state.counts.instructions m.state.counts.constants 0 0) m
 
 -- "Before the walk [..]; counts are 0": nothing is written
 unfoldable pub lower_checked : (Register → Walk Unit) → Verdict → Tree → ℕ → ℕ → Made → Lowered

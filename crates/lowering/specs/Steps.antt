@@ -26,22 +26,22 @@ registered (Err refusal) m = stops (unnamed refusal) m
 abbrev pub with_registers : RegisterSet → Made → Made
 with_registers registers m =
     made m.code m.constants m.marks
-    (record { registers = registers; instructions = m.state.instructions; constants = m.state.constants; marks = m.state.marks })
+    (record { registers = registers; counts = m.state.counts; marks = m.state.marks })
 
 abbrev pub with_code : List ℕ → ℕ → Made → Made
 with_code code count m =
     made code m.constants m.marks
-    (record { registers = m.state.registers; instructions = count; constants = m.state.constants; marks = m.state.marks })
+    (record { registers = m.state.registers; counts = record { instructions = count; constants = m.state.counts.constants }; marks = m.state.marks })
 
 abbrev pub with_constants : List ℕ → ℕ → Made → Made
 with_constants constants count m =
     made m.code constants m.marks
-    (record { registers = m.state.registers; instructions = m.state.instructions; constants = count; marks = m.state.marks })
+    (record { registers = m.state.registers; counts = record { instructions = m.state.counts.instructions; constants = count }; marks = m.state.marks })
 
 abbrev pub with_marks : List ℕ → ℕ → Made → Made
 with_marks marks count m =
     made m.code m.constants marks
-    (record { registers = m.state.registers; instructions = m.state.instructions; constants = m.state.constants; marks = count })
+    (record { registers = m.state.registers; counts = m.state.counts; marks = count })
 
 -- `allocate_temp`: "10: Is a register free?"
 unfoldable pub allocate_temp : Walk Register
@@ -64,13 +64,13 @@ destination None = allocate_temp
 -- `emit_instruction`: the place of the new instruction, or 13
 unfoldable pub emit : Instruction → Walk ℕ
 emit i m =
-    let after : Buffer = emit_instruction m.code m.state.instructions i in
+    let after : Buffer = emit_instruction m.code m.state.counts.instructions i in
     placed after.answer.place (with_code after.words after.answer.count m)
 
 -- `store_constant`: the place of the constant, or 14
 unfoldable pub store : Operand → Walk ℕ
 store c m =
-    let after : Buffer = store_constant m.constants m.state.constants c in
+    let after : Buffer = store_constant m.constants m.state.counts.constants c in
     placed after.answer.place (with_constants after.words after.answer.count m)
 
 -- a constant in a register: "destination, pool, LoadConst"
@@ -87,14 +87,14 @@ put_offset code j o = set code (instruction_width * j + offset_word (get_or code
 
 -- `patch_jump` of the walk: the jump at place j goes to the instruction that is emitted next
 unfoldable pub patch_to_next : ℕ → Walk Unit
-patch_to_next j m = ends tt (with_code (put_offset m.code j (m.state.instructions - j)) m.state.instructions m)
+patch_to_next j m = ends tt (with_code (put_offset m.code j (m.state.counts.instructions - j)) m.state.counts.instructions m)
 
 -- "the last instruction so far is marked (the mark word is its place)". 15: "Is any instruction there when an argument is marked? (the call)",
 -- whose place and span are given; 16: "Is there a word for the mark?"
 unfoldable pub mark : ℕ → ℕ → ℕ → Walk ℕ
 mark call start end m =
-    let after : Buffer = append m.marks m.state.marks max_count ((m.state.instructions - 1) ∷ []) Refusal.Marks in
-    cond (eqb m.state.instructions 0) (stops (error Refusal.Unmarked call start end) m)
+    let after : Buffer = append m.marks m.state.marks max_count ((m.state.counts.instructions - 1) ∷ []) Refusal.Marks in
+    cond (eqb m.state.counts.instructions 0) (stops (error Refusal.Unmarked call start end) m)
     (placed after.answer.place (with_marks after.words after.answer.count m))
 
 -- one mark: "adds the frame size to its instruction's destination". 17: "Has it a destination that `patch_arguments` lists?"
@@ -105,7 +105,7 @@ patch_argument place m =
     let sum : ℕ = get_or m.code (instruction_width * place + 1) 0 + m.state.registers.frame_size in
     cond (has_destination kind)
     (cond (leb sum max_register)
-    (ends tt (with_code (set m.code (instruction_width * place + 1) sum) m.state.instructions m))
+    (ends tt (with_code (set m.code (instruction_width * place + 1) sum) m.state.counts.instructions m))
     (stops (error Refusal.Sum place 0 0) m))
     (stops (error Refusal.Destination place 0 0) m)
 

@@ -25,10 +25,10 @@ use Rattle.lowering.specs.Fields.{Narrow}
 
 -- how many instructions, constants and marks are made
 abbrev pub instructions_of : Made → ℕ
-instructions_of m = m.state.instructions
+instructions_of m = m.state.counts.instructions
 
 abbrev pub constants_of : Made → ℕ
-constants_of m = m.state.constants
+constants_of m = m.state.counts.constants
 
 abbrev pub marks_of : Made → ℕ
 marks_of m = m.state.marks

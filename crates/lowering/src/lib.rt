@@ -6,12 +6,18 @@ use environment::RegisterSet;
 // The eight numbers that come back, a word each.
 pub const RESULT_WORDS: usize = 8;
 
+// How many instructions and how many constants are made: what a step that takes no register may change.
+#[derive(Clone, Copy)]
+pub struct Counts {
+    pub instructions: u32,
+    pub constants: u32,
+}
+
 // The part of kaori's `Lower` that is not a lent slice: the registers, and how many records of each buffer are made. The counts stand here and not with their buffers:
 // document 01 has the state go by value beside the lent slices.
 #[derive(Clone, Copy)]
 pub struct State {
     pub registers: RegisterSet,
-    pub instructions: u32,
-    pub constants: u32,
+    pub counts: Counts,
     pub marks: u32,
 }

@@ -18,14 +18,14 @@ unmarked marks count instructions e = rw (eq-eqb _ _ e)
 
 module _ (call start end : ℕ) (m : Made) where
   abbrev marked : Buffer
-  marked = mark_argument m.marks m.state.marks m.state.instructions
+  marked = mark_argument m.marks m.state.marks m.state.counts.instructions
 
   -- 15
-  pub mark_none : m.state.instructions ≡ 0 → mark call start end m ≡ stops (error Refusal.Unmarked call start end) m
+  pub mark_none : m.state.counts.instructions ≡ 0 → mark call start end m ≡ stops (error Refusal.Unmarked call start end) m
   unfolding mark
   mark_none e = rw (eq-eqb _ _ e)
 
   -- the mark's place, or 16
-  pub mark_some : (m.state.instructions ≡ 0 → ⊥) → mark call start end m ≡ placed marked.answer.place (with_marks marked.words marked.answer.count m)
+  pub mark_some : (m.state.counts.instructions ≡ 0 → ⊥) → mark call start end m ≡ placed marked.answer.place (with_marks marked.words marked.answer.count m)
   unfolding mark mark_argument
   mark_some n = rw (ne_eqb _ _ n)

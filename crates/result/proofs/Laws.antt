@@ -49,17 +49,17 @@ number_clamped n = go (dec_lt n 20)
 module _ (arity : ℕ) (t : Tree) (m : Made) (a : ℕ) where
   pub result_refused : {number place start end : ℕ} → is_refusal a ≡ true → number ≡ refusal_number (refusal_of (number_of_refusal a)) → place ≡ value_of a →
       start ≡ cond (names_node (refusal_of (number_of_refusal a))) (span_start t (value_of a)) 0 → end ≡ cond (names_node (refusal_of (number_of_refusal a))) (span_end t (value_of a)) 0 →
-      definition.result number place start end m.state.instructions m.state.constants 0 0 ≡ (definition.lowered_of arity (seen t place_at m a)).result
+      definition.result number place start end m.state.counts.instructions m.state.counts.constants 0 0 ≡ (definition.lowered_of arity (seen t place_at m a)).result
   unfolding definition.lowered_of seen error_at
   result_refused h n p s e = rw (h, n, p, s, e) (go (names_node (refusal_of (number_of_refusal a))))
     where
       go : (b : Bool) →
-          definition.result (refusal_number (refusal_of (number_of_refusal a))) (value_of a) (cond b (span_start t (value_of a)) 0) (cond b (span_end t (value_of a)) 0) m.state.instructions m.state.constants 0 0
+          definition.result (refusal_number (refusal_of (number_of_refusal a))) (value_of a) (cond b (span_start t (value_of a)) 0) (cond b (span_end t (value_of a)) 0) m.state.counts.instructions m.state.counts.constants 0 0
           ≡ (definition.lowered_of arity (stops (cond b (error (refusal_of (number_of_refusal a)) (value_of a) (span_start t (value_of a)) (span_end t (value_of a))) (error (refusal_of (number_of_refusal a)) (value_of a) 0 0)) (settle m))).result
       go true = refl
       go false = refl
 
   pub result_placed : {place : ℕ} → is_refusal a ≡ false → place ≡ value_of a →
-      definition.result 0 place 0 0 m.state.instructions m.state.constants m.state.registers.frame_size arity ≡ (definition.lowered_of arity (seen t place_at m a)).result
+      definition.result 0 place 0 0 m.state.counts.instructions m.state.counts.constants m.state.registers.frame_size arity ≡ (definition.lowered_of arity (seen t place_at m a)).result
   unfolding definition.lowered_of seen
   result_placed h p = rw (h, p)

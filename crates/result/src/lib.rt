@@ -12,8 +12,8 @@ ghost use Rattle.steps.specs.Answers.{place_at, refusal_of, names_node, seen};
 ghost use Rattle.result.specs.Numbers.{numbers, refused_result};
 
 use diagnostics::{Refusal, Refused};
-use lowering::RESULT_WORDS;
-use steps::answer::{AnswerAndState, is_refusal, number_of, value_of};
+use lowering::{RESULT_WORDS, State};
+use steps::answer::{Stepped, is_refusal, number_of, value_of};
 use syntax::ast::node_word;
 
 // The words of a node record that have its span.
@@ -103,10 +103,10 @@ fn span(nodes: &[u8], number: u32, place: u32) -> (u32, u32)
 
 // The numbers of what was made. On a refusal the last two are 0, and the span is that of the node that it names.
 #[tactic(auto, using(crate::proofs::Laws::result_refused, crate::proofs::Laws::result_placed))]
-pub fn result_of(nodes: &[u8], lowered: AnswerAndState, arity: u32) -> Result
-    ensures { (list names k p m : List ℕ) → numbers result ≡ (lowered_of arity (seen (tree_of nodes.now list names) place_at (made k p m lowered.state) lowered.answer)).result }
+pub fn result_of(nodes: &[u8], lowered: Stepped<State>, arity: u32) -> Result
+    ensures { (list names k p m : List ℕ) → numbers result ≡ (lowered_of arity (seen (tree_of nodes.now list names) place_at (made k p m lowered.after) lowered.answer)).result }
 {
-    let s = lowered.state;
+    let s = lowered.after;
     let a = lowered.answer;
     let place = value_of(a);
     if is_refusal(a) {
@@ -117,8 +117,8 @@ pub fn result_of(nodes: &[u8], lowered: AnswerAndState, arity: u32) -> Result
             place,
             start,
             end,
-            instructions: s.instructions,
-            constants: s.constants,
+            instructions: s.counts.instructions,
+            constants: s.counts.constants,
             frame_size: 0,
             arity: 0,
         };
@@ -128,8 +128,8 @@ pub fn result_of(nodes: &[u8], lowered: AnswerAndState, arity: u32) -> Result
         place,
         start: 0,
         end: 0,
-        instructions: s.instructions,
-        constants: s.constants,
+        instructions: s.counts.instructions,
+        constants: s.counts.constants,
         frame_size: s.registers.frame_size,
         arity,
     }

@@ -123,42 +123,42 @@ module _ (t : Tree) where
   module _ {B : Type 0} (m : Made) (a : Appended) (k : ℕ → Walk B) where
     -- an instruction emitted
     module _ (i : Instruction) {op x y z : ℕ} {code : List ℕ} (told : words_of i ≡ op ∷ x ∷ y ∷ z ∷ [])
-        (left : buffer code a ≡ append m.code m.state.instructions max_instructions (op ∷ x ∷ y ∷ z ∷ []) Refusal.Code) where
+        (left : buffer code a ≡ append m.code m.state.counts.instructions max_instructions (op ∷ x ∷ y ∷ z ∷ []) Refusal.Code) where
       pub then_emitted : {n : ℕ} {r : Outcome B} → a.place ≡ Ok n → settled (k n (with_code code a.count m)) ≡ r → settled (bind (emit i m) k) ≡ r
       unfolding emit emit_instruction
       then_emitted h q = rw told (then_appended (λ ws count. with_code ws count m) _ code a k left h q)
 
       pub stop_emitted : {e : Refusal} (gives : ℕ → B) → a.place ≡ Err e →
-          settled (bind (emit i m) k) ≡ seen t gives (with_code code m.state.instructions m) (refusal_at Refusal.Code 0)
+          settled (bind (emit i m) k) ≡ seen t gives (with_code code m.state.counts.instructions m) (refusal_at Refusal.Code 0)
       unfolding emit emit_instruction names_node
       stop_emitted gives h = rw told (stop_appended (λ ws count. with_code ws count m) _ code a k left _ Refusal.Code gives h (append_refused _ _ _ _ _ left h) refl)
 
     -- a constant pooled
-    module _ (c : Operand) {pool : List ℕ} (left : buffer pool a ≡ store_constant m.constants m.state.constants c) where
+    module _ (c : Operand) {pool : List ℕ} (left : buffer pool a ≡ store_constant m.constants m.state.counts.constants c) where
       pub then_stored : {n : ℕ} {r : Outcome B} → a.place ≡ Ok n → settled (k n (with_constants pool a.count m)) ≡ r → settled (bind (store c m) k) ≡ r
       unfolding store
       then_stored = then_appended (λ ws count. with_constants ws count m) _ pool a k left
 
       pub stop_stored : {e : Refusal} (gives : ℕ → B) → a.place ≡ Err e →
-          settled (bind (store c m) k) ≡ seen t gives (with_constants pool m.state.constants m) (refusal_at Refusal.Constants 0)
+          settled (bind (store c m) k) ≡ seen t gives (with_constants pool m.state.counts.constants m) (refusal_at Refusal.Constants 0)
       unfolding store names_node
       stop_stored {e} gives h =
-          let refused = store_refused m.constants m.state.constants c e (rw (← left) h) in
+          let refused = store_refused m.constants m.state.counts.constants c e (rw (← left) h) in
           stop_appended (λ ws count. with_constants ws count m) _ pool a k left _ Refusal.Constants gives h
           (refused.0, ap (λ b. b.answer.count) left ∙ refused.1.counted) refl
 
     -- the last instruction marked, where there is one
-    module _ (call start end : ℕ) {marks : List ℕ} (there : m.state.instructions ≢ 0)
-        (left : buffer marks a ≡ append m.marks m.state.marks max_count ((m.state.instructions - 1) ∷ []) Refusal.Marks) where
+    module _ (call start end : ℕ) {marks : List ℕ} (there : m.state.counts.instructions ≢ 0)
+        (left : buffer marks a ≡ append m.marks m.state.marks max_count ((m.state.counts.instructions - 1) ∷ []) Refusal.Marks) where
       pub then_marked : {n : ℕ} {r : Outcome B} → a.place ≡ Ok n → settled (k n (with_marks marks a.count m)) ≡ r → settled (bind (mark call start end m) k) ≡ r
       unfolding mark
-      then_marked h q = rw (ne_eqb m.state.instructions 0 there) (then_appended (λ ws count. with_marks ws count m) _ marks a k left h q)
+      then_marked h q = rw (ne_eqb m.state.counts.instructions 0 there) (then_appended (λ ws count. with_marks ws count m) _ marks a k left h q)
 
       pub stop_marked : {e : Refusal} (gives : ℕ → B) → a.place ≡ Err e →
           settled (bind (mark call start end m) k) ≡ seen t gives (with_marks marks m.state.marks m) (refusal_at Refusal.Marks 0)
       unfolding mark names_node
       stop_marked gives h =
-          rw (ne_eqb m.state.instructions 0 there)
+          rw (ne_eqb m.state.counts.instructions 0 there)
           (stop_appended (λ ws count. with_marks ws count m) _ marks a k left _ Refusal.Marks gives h (append_refused _ _ _ _ _ left h) refl)
 
 -- the place of a constant is none above the count

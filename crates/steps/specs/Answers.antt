@@ -11,7 +11,7 @@ use Rattle.environment.specs.Registers.{register_count, all_free}
 use Rattle.syntax.specs.declared.ast.Node.{Node}
 use Rattle.runtime.specs.declared.operand.Operand.{Operand}
 use Rattle.lowering.specs.declared.State.{State}
-use Rattle.steps.specs.declared.counted.Counts.{Counts}
+use Rattle.lowering.specs.declared.Counts.{Counts}
 use Rattle.steps.specs.declared.sources.Sources.{Sources}
 use Rattle.lowering.specs.Tree.{Tree, span_start, span_end}
 use Rattle.lowering.specs.Walk.{Made, Outcome, ends, stops, error}
@@ -153,7 +153,7 @@ is_inner a = eqb (a / word_end) 1
 
 -- the state with these counts of instructions and constants
 abbrev pub state_of : RegisterSet → Counts → ℕ → State
-state_of registers counts marks = record { registers = registers; instructions = counts.instructions; constants = counts.constants; marks = marks }
+state_of registers counts marks = record { registers = registers; counts = counts; marks = marks }
 
 -- an answer that is a refusal, or the register d
 abbrev pub DestOrRefusal : ℕ → ℕ → Type 0

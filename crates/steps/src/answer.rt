@@ -7,13 +7,13 @@ ghost use Rattle.steps.specs.Answers.{register_at, number_at, word_end, refusal_
 
 use diagnostics::Refusal;
 use environment::REGISTERS;
-use lowering::State;
 use words::WORD_END;
 
-// The state afterwards, and the answer. It is a word: a `Result` that holds the state was tried, and misses the speed that this form has (docs/DESIGN-PASS.md).
+// What a step leaves, and its answer. A step that takes and gives back no register leaves the counts alone (`Stepped<Counts>`), any other one a state. The answer is a
+// word: a `Result` that holds the state was tried, and misses the speed that this form has (docs/DESIGN-PASS.md).
 #[derive(Clone, Copy)]
-pub struct AnswerAndState {
-    pub state: State,
+pub struct Stepped<S> {
+    pub after: S,
     pub answer: u64,
 }
 
@@ -95,22 +95,32 @@ pub fn value_of(answer: u64) -> u32
     (answer % WORD_END) as u32
 }
 
-pub fn answered(state: State, value: u32) -> AnswerAndState
-    ensures state { result.state ≡ state }
-    ensures answer { result.answer ≡ value }
+// A register or a place is the answer.
+pub fn answered<S>(after: S, value: u32) -> Stepped<S>
+    ensures { result ≡ record { after = after; answer = value } }
 {
-    AnswerAndState {
-        state,
+    Stepped {
+        after,
         answer: value as u64,
     }
 }
 
-pub fn refused(state: State, refusal: Refusal, place: u32) -> AnswerAndState
-    ensures state { result.state ≡ state }
-    ensures answer { result.answer ≡ refusal_at refusal place }
+// A refusal is the answer.
+pub fn refused<S>(after: S, refusal: Refusal, place: u32) -> Stepped<S>
+    ensures { result ≡ record { after = after; answer = refusal_at refusal place } }
 {
-    AnswerAndState {
-        state,
+    Stepped {
+        after,
         answer: refusal_at(refusal, place),
+    }
+}
+
+// The node is left to the walk: nothing was done.
+pub fn left_to_walk<S>(after: S, node: u32) -> Stepped<S>
+    ensures { result ≡ record { after = after; answer = word_end + node } }
+{
+    Stepped {
+        after,
+        answer: inner(node),
     }
 }

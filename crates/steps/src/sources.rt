@@ -17,8 +17,9 @@ ghost use Rattle.lowering.specs.Lower.{binary_sources, fused_sources};
 ghost use Rattle.operators.specs.Opcodes.{first_of, second_of};
 ghost use Rattle.steps.specs.Answers.{register_at, literal_word, first_source, second_source, place_at, settled, seen, state_of, DestOrRefusal, WordOrRefusal};
 
-use crate::answer::{LITERAL, is_refusal, reg_of, value_of};
-use crate::counted::{AnswerAndCounts, Counts, emit, store};
+use crate::answer::{LITERAL, Stepped, answered, is_refusal, reg_of, value_of};
+use crate::counted::{emit, store};
+use lowering::Counts;
 use operators::{
     binary_kr, binary_rk, binary_rr, jump_kr, jump_rk, jump_rr, jump_swaps, swaps, swaps_kr,
 };
@@ -51,11 +52,11 @@ fn binary_end(
     src1: u32,
     src2: u32,
     d: u32,
-) -> AnswerAndCounts
+) -> Stepped<Counts>
     ensures step { (t : Tree) (i : Instruction) (rs : RegisterSet) (n : ℕ) (p m : List ℕ) →
         words_of i ≡ opcode_number opcode ∷ reg_of (register_at d) ∷ first_of swap src1 src2 ∷ second_of swap src1 src2 ∷ [] →
         settled (bind (emit i (made (words code.old) p m (state_of rs counts n))) (λ x. ret (Operand.Register (register_at d))))
-        ≡ seen t (λ w. Operand.Register (register_at w)) (made (words code.new) p m (state_of rs result.counts n)) result.answer }
+        ≡ seen t (λ w. Operand.Register (register_at w)) (made (words code.new) p m (state_of rs result.after n)) result.answer }
     ensures code { tail code.new ≡ tail code.old }
     ensures word { DestOrRefusal d result.answer }
 {
@@ -65,7 +66,7 @@ fn binary_end(
     if is_refusal(e.answer) {
         return e;
     }
-    e.counts.answered(d)
+    answered(e.after, d)
 }
 
 // The instruction of an operator on its sources, with its result in d. What the sources held is given back by the walk.
@@ -77,11 +78,11 @@ pub fn binary_sources(
     operator: BinaryOp,
     sources: Sources,
     d: u32,
-) -> AnswerAndCounts
+) -> Stepped<Counts>
     ensures step { (t : Tree) (E : ℕ → Option Register → Walk Operand) (left right : ℕ) (rs : RegisterSet) (n : ℕ) (m : List ℕ) →
         settled (binary_sources (λ x. ret tt) t E operator left right (register_at d) (first_source sources) (second_source sources)
         (made (words code.old) (words constants.old) m (state_of rs counts n)))
-        ≡ seen t (λ w. Operand.Register (register_at w)) (made (words code.new) (words constants.new) m (state_of rs result.counts n)) result.answer }
+        ≡ seen t (λ w. Operand.Register (register_at w)) (made (words code.new) (words constants.new) m (state_of rs result.after n)) result.answer }
     ensures code { tail code.new ≡ tail code.old }
     ensures constants { tail constants.new ≡ tail constants.old }
     ensures word { DestOrRefusal d result.answer }
@@ -100,7 +101,7 @@ pub fn binary_sources(
             let k = value_of(stored.answer);
             let opcode = binary_rk(operator);
             let swap = swaps(operator);
-            binary_end(code, stored.counts, opcode, swap, reg_of(src1), k, d)
+            binary_end(code, stored.after, opcode, swap, reg_of(src1), k, d)
         }
         Sources::KR(constant, src2) => {
             let stored = store(constants, counts, constant);
@@ -110,7 +111,7 @@ pub fn binary_sources(
             let k = value_of(stored.answer);
             let opcode = binary_kr(operator);
             let swap = swaps_kr(operator);
-            binary_end(code, stored.counts, opcode, swap, k, reg_of(src2), d)
+            binary_end(code, stored.after, opcode, swap, k, reg_of(src2), d)
         }
     }
 }
@@ -125,12 +126,12 @@ pub fn fused_sources(
     sense: bool,
     operator: BinaryOp,
     sources: Sources,
-) -> AnswerAndCounts
+) -> Stepped<Counts>
     ensures step { (t : Tree) (E : ℕ → Option Register → Walk Operand) (own : Option Register → Walk Operand) (c : Comparison) (rs : RegisterSet) (n : ℕ) (m : List ℕ) →
         comparison operator ≡ Some c →
         settled (fused_sources t E sense own c (first_source sources) (second_source sources)
         (made (words code.old) (words constants.old) m (state_of rs counts n)))
-        ≡ seen t place_at (made (words code.new) (words constants.new) m (state_of rs result.counts n)) result.answer }
+        ≡ seen t place_at (made (words code.new) (words constants.new) m (state_of rs result.after n)) result.answer }
     ensures code { tail code.new ≡ tail code.old }
     ensures constants { tail constants.new ≡ tail constants.old }
     ensures word { WordOrRefusal result.answer }
@@ -157,7 +158,7 @@ pub fn fused_sources(
             }
             let k = value_of(stored.answer);
             let opcode = jump_rk(sense, operator);
-            emit(code, stored.counts, opcode, reg_of(src1), k, 0)
+            emit(code, stored.after, opcode, reg_of(src1), k, 0)
         }
         Sources::KR(constant, src2) => {
             let stored = store(constants, counts, constant);
@@ -166,7 +167,7 @@ pub fn fused_sources(
             }
             let k = value_of(stored.answer);
             let opcode = jump_kr(sense, operator);
-            emit(code, stored.counts, opcode, reg_of(src2), k, 0)
+            emit(code, stored.after, opcode, reg_of(src2), k, 0)
         }
     }
 }
@@ -178,15 +179,15 @@ pub fn field_of(
     counts: Counts,
     src: u32,
     constant: Operand,
-) -> AnswerAndCounts
+) -> Stepped<Counts>
     ensures literal { src ≡ literal_word → (t : Tree) (rs : RegisterSet) (n : ℕ) (k m : List ℕ) →
-        settled (store constant (made k (words constants.old) m (state_of rs counts n))) ≡ seen t place_at (made k (words constants.new) m (state_of rs result.counts n)) result.answer }
-    ensures register { src ≢ literal_word → (result ≡ record { counts = counts; answer = reg_of (register_at src) }) × (words constants.new ≡ words constants.old) }
+        settled (store constant (made k (words constants.old) m (state_of rs counts n))) ≡ seen t place_at (made k (words constants.new) m (state_of rs result.after n)) result.answer }
+    ensures register { src ≢ literal_word → (result ≡ record { after = counts; answer = reg_of (register_at src) }) × (words constants.new ≡ words constants.old) }
     ensures tail { tail constants.new ≡ tail constants.old }
     ensures word { WordOrRefusal result.answer }
 {
     if src == LITERAL {
         return store(constants, counts, constant);
     }
-    counts.answered(reg_of(src))
+    answered(counts, reg_of(src))
 }

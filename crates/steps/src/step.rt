@@ -11,8 +11,8 @@ ghost use Rattle.lowering.specs.Walk.{made};
 ghost use Rattle.lowering.specs.Steps.{destination, emit, store, load_constant, put_offset};
 ghost use Rattle.steps.specs.Answers.{register_at, dest_of, place_at, settled, seen, Aimed, RegisterOrRefusal, WordOrRefusal};
 
-use crate::answer::{AnswerAndState, answered, is_refusal, refused, value_of};
-use crate::counted::{self, Counts, constant_into};
+use crate::answer::{Stepped, answered, is_refusal, refused, value_of};
+use crate::counted::{self, constant_into};
 use diagnostics::Refusal;
 use lowering::State;
 use patch::put_offset;
@@ -21,8 +21,8 @@ use runtime::operand::Operand;
 
 // The register asked for, else the smallest free one, which is taken.
 #[tactic(auto, using(crate::proofs::Words::refusal_start_lem, crate::proofs::Words::refusal_from))]
-pub fn destination(state: State, dest: Option<u32>) -> AnswerAndState
-    ensures step { (t : Tree) (k p m : List ℕ) → settled (destination (dest_of dest) (made k p m state)) ≡ seen t register_at (made k p m result.state) result.answer }
+pub fn destination(state: State, dest: Option<u32>) -> Stepped<State>
+    ensures step { (t : Tree) (k p m : List ℕ) → settled (destination (dest_of dest) (made k p m state)) ≡ seen t register_at (made k p m result.after) result.answer }
     ensures word { Aimed dest → RegisterOrRefusal result.answer }
 {
     if let Some(d) = dest {
@@ -45,9 +45,9 @@ pub fn load_constant(
     state: State,
     constant: Operand,
     dest: Option<u32>,
-) -> AnswerAndState
+) -> Stepped<State>
     ensures step { (t : Tree) (m : List ℕ) → settled (load_constant constant (dest_of dest) (made (words code.old) (words constants.old) m state))
-        ≡ seen t register_at (made (words code.new) (words constants.new) m result.state) result.answer }
+        ≡ seen t register_at (made (words code.new) (words constants.new) m result.after) result.answer }
     ensures code { tail code.new ≡ tail code.old }
     ensures constants { tail constants.new ≡ tail constants.old }
     ensures word { Aimed dest → RegisterOrRefusal result.answer }
@@ -56,36 +56,36 @@ pub fn load_constant(
     if is_refusal(r.answer) {
         return r;
     }
-    let s = r.state;
+    let s = r.after;
     let d = value_of(r.answer);
-    let f = constant_into(code, constants, Counts::of(s), constant, d);
+    let f = constant_into(code, constants, s.counts, constant, d);
     f.on(s)
 }
 
 // An instruction emitted. Its place is the answer.
-pub fn emit(code: &mut [u8], state: State, opcode: Opcode, a: u32, b: u32, c: u32) -> AnswerAndState
+pub fn emit(code: &mut [u8], state: State, opcode: Opcode, a: u32, b: u32, c: u32) -> Stepped<State>
     ensures step { (t : Tree) (i : Instruction) (p m : List ℕ) → words_of i ≡ opcode_number opcode ∷ a ∷ b ∷ c ∷ [] →
-        settled (emit i (made (words code.old) p m state)) ≡ seen t place_at (made (words code.new) p m result.state) result.answer }
+        settled (emit i (made (words code.old) p m state)) ≡ seen t place_at (made (words code.new) p m result.after) result.answer }
     ensures code { tail code.new ≡ tail code.old }
     ensures word { WordOrRefusal result.answer }
 {
-    let f = counted::emit(code, Counts::of(state), opcode, a, b, c);
+    let f = counted::emit(code, state.counts, opcode, a, b, c);
     f.on(state)
 }
 
 // A constant pooled. Its place is the answer.
-pub fn store(constants: &mut [u8], state: State, constant: Operand) -> AnswerAndState
-    ensures step { (t : Tree) (k m : List ℕ) → settled (store constant (made k (words constants.old) m state)) ≡ seen t place_at (made k (words constants.new) m result.state) result.answer }
+pub fn store(constants: &mut [u8], state: State, constant: Operand) -> Stepped<State>
+    ensures step { (t : Tree) (k m : List ℕ) → settled (store constant (made k (words constants.old) m state)) ≡ seen t place_at (made k (words constants.new) m result.after) result.answer }
     ensures constants { tail constants.new ≡ tail constants.old }
     ensures word { WordOrRefusal result.answer }
 {
-    let f = counted::store(constants, Counts::of(state), constant);
+    let f = counted::store(constants, state.counts, constant);
     f.on(state)
 }
 
 // What a source held is given back.
 pub fn given_back(state: State, src: u32) -> State
-    ensures { result ≡ record { registers = given_back state.registers src; instructions = state.instructions; constants = state.constants; marks = state.marks } }
+    ensures { result ≡ record { registers = given_back state.registers src; counts = state.counts; marks = state.marks } }
 {
     let mut s = state;
     let held = s.registers;

@@ -8,9 +8,9 @@ use Rattle.codegen.proofs.patch_and_answer.Goals as goal
 pub returns-in-Ok-clause-step : goal.returns-in-Ok-clause-step
 unfolding patch_arguments seen_done
 returns-in-Ok-clause-step c = λ t p.
-    rw (c.answered.ensures.state, c.answered.ensures.answer) (patched_done t _ _ _ _ (c.in-Ok.ensures.words p _ refl) (omega arith))
+    rw c.answered.ensures (patched_done t _ _ _ _ (c.in-Ok.ensures.words p _ refl) (omega arith))
 
 pub returns-in-Err-clause-step : goal.returns-in-Err-clause-step
 unfolding patch_arguments seen_done
 returns-in-Err-clause-step c = λ t p.
-    rw (c.refused.ensures.state, c.refused.ensures.answer) (patched_refused t _ _ _ _ (c.in-Err.ensures.words p _ refl) (omega arith))
+    rw c.refused.ensures (patched_refused t _ _ _ _ (c.in-Err.ensures.words p _ refl) (omega arith))

@@ -54,8 +54,8 @@ module _ (a : Accepted) where
     base = 0;
     code_stands = stands_itself _ (instructions a) a.left.code;
     pool = a.left.constants;
-    pooled = a.left.state.constants;
-    pool_stands = stands_itself _ a.left.state.constants a.left.constants;
+    pooled = a.left.state.counts.constants;
+    pool_stands = stands_itself _ a.left.state.counts.constants a.left.constants;
     operators = s.operators;
     hypotheses = s.hypotheses;
     parameters = s.parameters;

@@ -173,7 +173,7 @@ module _ (sense : Bool) (t : Tree) (root : ℕ) (m m' : Made) (j : ℕ) (empty :
   arity = length t.names
 
   abbrev alone : Lowered
-  alone = lowered (result 0 j 0 0 (count m') m'.state.constants m'.state.registers.frame_size arity) m'
+  alone = lowered (result 0 j 0 0 (count m') m'.state.counts.constants m'.state.registers.frame_size arity) m'
 
   level : count m' ≡ suc j
   level = (good unit_operators unit_values).level
@@ -197,7 +197,7 @@ module _ (sense : Bool) (t : Tree) (root : ℕ) (m m' : Made) (j : ℕ) (empty :
       M = s.operators
 
       abbrev consts : ℕ → Option M.Value
-      consts = constant_at M m'.constants m'.state.constants
+      consts = constant_at M m'.constants m'.state.counts.constants
 
       abbrev code : ℕ → Option Instruction
       code = fetch (patch_jump m'.code (count m') j g.offset).code (count m')
@@ -219,7 +219,7 @@ module _ (sense : Bool) (t : Tree) (root : ℕ) (m m' : Made) (j : ℕ) (empty :
           record {
             codes = λ i lo hi.
                 ap code (zero-add i) ∙ fetched i (omega arith) ∙ ap decode (offset_others j g.offset m' room (omega arith) i (λ e. omega arith));
-            pools = λ k ws h. constant_record M m'.constants m'.state.constants k h.inside (constant_inside m'.constants k (ap length h.there ∙ h.whole)) ∙ ap (constant_of M) h.there;
+            pools = λ k ws h. constant_record M m'.constants m'.state.counts.constants k h.inside (constant_inside m'.constants k (ap length h.there ∙ h.whole)) ∙ ap (constant_of M) h.there;
             top = omega arith;
           }
 

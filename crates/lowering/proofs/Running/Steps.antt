@@ -64,7 +64,7 @@ and_true true b e = (refl, e)
 and_true false b e = absurd (false≢true e)
 
 abbrev pub count : Made → ℕ
-count m = m.state.instructions
+count m = m.state.counts.instructions
 
 -- the words of the instruction at a place
 abbrev pub instruction_at : Made → ℕ → List ℕ
@@ -80,7 +80,7 @@ Loose arity m (Register.Local r) = r < arity
 
 -- the constant of these words stands at place k of the pool
 pub record Has (m : Made) (k : ℕ) (ws : List ℕ) : Type 0 where
-  pub inside : k < m.state.constants
+  pub inside : k < m.state.counts.constants
   pub there : record_at constant_width m.constants k ≡ ws
   pub whole : length ws ≡ constant_width
 
@@ -372,10 +372,10 @@ pub record ConstantPooled (ws : List ℕ) (m : Made) (k : ℕ) (m' : Made) : Typ
   pub level : count m' ≡ count m
   pub grown : Grown (count m) m m'
 
-pool_new : (m : Made) (r : List ℕ) → length r ≡ constant_width → m.state.constants < capacity (length r) m.constants →
-    ConstantPooled r m m.state.constants (with_constants (put_record (length r) m.constants m.state.constants r) (m.state.constants + 1) m)
+pool_new : (m : Made) (r : List ℕ) → length r ≡ constant_width → m.state.counts.constants < capacity (length r) m.constants →
+    ConstantPooled r m m.state.counts.constants (with_constants (put_record (length r) m.constants m.state.counts.constants r) (m.state.counts.constants + 1) m)
 pool_new m r e h =
-    let n : ℕ = m.state.constants in
+    let n : ℕ = m.state.counts.constants in
     record {
       has = record {
         inside = omega arith;
@@ -402,8 +402,8 @@ pool_new m r e h =
       };
     }
 
-pool_old : (m : Made) (r : List ℕ) (k : ℕ) → length r ≡ constant_width → k < m.state.constants → record_at (length r) m.constants k ≡ r →
-    ConstantPooled r m k (with_constants m.constants m.state.constants m)
+pool_old : (m : Made) (r : List ℕ) (k : ℕ) → length r ≡ constant_width → k < m.state.counts.constants → record_at (length r) m.constants k ≡ r →
+    ConstantPooled r m k (with_constants m.constants m.state.counts.constants m)
 pool_old m r k e l q = record {
   has = record { inside = l; there = rw e at q; whole = e };
   level = refl;
@@ -425,7 +425,7 @@ unfolding store store_constant append placed
 pool_holds c m = go (ltb place n) refl
   where
     n : ℕ
-    n = m.state.constants
+    n = m.state.counts.constants
 
     r : List ℕ
     r = constant_words c

@@ -36,12 +36,12 @@ use Rattle.lowering.proofs.Walk.StepLaws.{below_named}
 -- what an append leaves, by its answer
 abbrev chosen : Made → Instruction → Bool → Buffer
 chosen m i c =
-    cond c (buffer (put_record (length (words_of i)) m.code m.state.instructions (words_of i)) (record { count = m.state.instructions + 1; place = Ok m.state.instructions }))
-    (buffer m.code (record { count = m.state.instructions; place = Err Refusal.Code }))
+    cond c (buffer (put_record (length (words_of i)) m.code m.state.counts.instructions (words_of i)) (record { count = m.state.counts.instructions + 1; place = Ok m.state.counts.instructions }))
+    (buffer m.code (record { count = m.state.counts.instructions; place = Err Refusal.Code }))
 
 abbrev marking : Made → Bool → Buffer
 marking m c =
-    cond c (buffer (put_record 1 m.marks m.state.marks ((m.state.instructions - 1) ∷ [])) (record { count = m.state.marks + 1; place = Ok m.state.marks }))
+    cond c (buffer (put_record 1 m.marks m.state.marks ((m.state.counts.instructions - 1) ∷ [])) (record { count = m.state.marks + 1; place = Ok m.state.marks }))
     (buffer m.marks (record { count = m.state.marks; place = Err Refusal.Marks }))
 
 -- Against 255 marks for each instruction made: where a walk ends, it is at least x marks behind, or at most y ahead; where it stops, at most b ahead.
@@ -105,7 +105,7 @@ module _ (b : ℕ) where
 
   steady_store : (c : Operand) → Steady b (store c)
   unfolding store placed
-  steady_store c = record { at = λ m. go m (store_constant m.constants m.state.constants c) }
+  steady_store c = record { at = λ m. go m (store_constant m.constants m.state.counts.constants c) }
     where
       go : (m : Made) (after : Buffer) → PaceOf 0 0 b m (placed after.answer.place (with_constants after.words after.answer.count m))
       go m after = place after.answer.place
@@ -117,7 +117,7 @@ module _ (b : ℕ) where
   -- an instruction: 255 behind
   paid_emit : (i : Instruction) → Pace 255 0 b (emit i)
   unfolding emit emit_instruction append placed
-  paid_emit i = record { at = λ m. go m (ltb m.state.instructions max_instructions && ltb m.state.instructions (capacity (length (words_of i)) m.code)) }
+  paid_emit i = record { at = λ m. go m (ltb m.state.counts.instructions max_instructions && ltb m.state.counts.instructions (capacity (length (words_of i)) m.code)) }
     where
       go : (m : Made) (c : Bool) →
           PaceOf 255 0 b m (placed (chosen m i c).answer.place (with_code (chosen m i c).words (chosen m i c).answer.count m))
@@ -147,7 +147,7 @@ module _ (b : ℕ) where
   -- a mark: one ahead
   ahead_mark : (i start end : ℕ) → Pace 0 1 b (mark i start end)
   unfolding mark append placed
-  ahead_mark i start end = record { at = λ m. go m (eqb m.state.instructions 0) (ltb m.state.marks max_count && ltb m.state.marks (capacity 1 m.marks)) }
+  ahead_mark i start end = record { at = λ m. go m (eqb m.state.counts.instructions 0) (ltb m.state.marks max_count && ltb m.state.marks (capacity 1 m.marks)) }
     where
       go : (m : Made) (z c : Bool) →
           PaceOf 0 1 b m (cond z (stops (error Refusal.Unmarked i start end) m)
@@ -337,7 +337,7 @@ module _ (t : Tree) (checked : Checked t) where
   steady_argument b place = record { at = λ m. go m (has_destination (get_or m.code (instruction_width * place) 0)) (leb (get_or m.code (instruction_width * place + 1) 0 + m.state.registers.frame_size) 255) }
     where
       go : (m : Made) (c d : Bool) → PaceOf {A = Unit {0}} 0 0 b m
-          (cond c (cond d (ends (tt {0}) (with_code (set m.code (instruction_width * place + 1) (get_or m.code (instruction_width * place + 1) 0 + m.state.registers.frame_size)) m.state.instructions m))
+          (cond c (cond d (ends (tt {0}) (with_code (set m.code (instruction_width * place + 1) (get_or m.code (instruction_width * place + 1) 0 + m.state.registers.frame_size)) m.state.counts.instructions m))
           (stops (error Refusal.Sum place 0 0) m)) (stops (error Refusal.Destination place 0 0) m))
       go m true true = omega arith
       go m true false = omega arith

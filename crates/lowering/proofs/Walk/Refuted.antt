@@ -191,7 +191,7 @@ module _ (m : Made) (r : ℕ) (sound : Sound (registers_of m)) (h : Held m r) wh
 -- ---- Smallest first: a walk that takes register 1 while 0 is free
 
 abbrev unmade : Made
-unmade = made [] [] [] (record { registers = all_free; instructions = 0; constants = 0; marks = 0 })
+unmade = made [] [] [] (record { registers = all_free; counts = record { instructions = 0; constants = 0 }; marks = 0 })
 
 pub smallest_first_refuted : (jump : ℕ → Walk ℕ) → SmallestFirst no_words takes_one jump → ⊥
 unfolding lower_materializing materialized source bind before_register node_at node_word made_of

@@ -9,22 +9,22 @@ use Rattle.steps.proofs.step.destination.Goals as goal
 pub returns-in-Some-clause-step : goal.returns-in-Some-clause-step
 unfolding destination settled
 returns-in-Some-clause-step c t k p m =
-    rw (c.answered.ensures.state, c.answered.ensures.answer, c.in-Some.is) (sym (seen_word t register_at _ _ (omega arith)))
+    rw (c.answered.ensures, c.in-Some.is) (sym (seen_word t register_at _ _ (omega arith)))
 
 pub returns-in_default-register-clause-step : goal.returns-in_default-register-clause-step
 unfolding destination
 returns-in_default-register-clause-step c t k p m =
-    rw (c.refused.ensures.state, c.refused.ensures.answer, c.in_default.is)
+    rw (c.refused.ensures, c.in_default.is)
     (none_allocated _ c.take-taken.ensures (no_number c.in_default-register.is) t refl)
 
 pub returns-clause-step : goal.returns-clause-step
 unfolding destination settled
 returns-clause-step c t k p m =
     let below = taken_below _ c.take-taken.ensures c.in-Ok.is in
-    rw (c.answered-2.ensures.state, c.answered-2.ensures.answer, c.in_default.is)
+    rw (c.answered-2.ensures, c.in_default.is)
     (ap settled (some_allocated _ c.take-taken.ensures (taken_number_at _ c.take-taken.ensures c.in-Ok.is) (λ e. absurd (omega (arith, below, e)))) ∙ sym (seen_word t register_at _ _ (omega (arith, below))))
 
 pub returns-clause-word : goal.returns-clause-word
 returns-clause-word c h =
     let below = taken_below _ c.take-taken.ensures c.in-Ok.is in
-    rw c.answered-2.ensures.answer (inr (omega (arith, below)))
+    rw c.answered-2.ensures (inr (omega (arith, below)))

@@ -17,7 +17,7 @@ unfolding load_constant destination bind
 returns-clause-step c t m =
     rw c.on.ensures
     (then_by t _ register_at _ _ _ (c.destination-r.ensures.step t _ _ _) c.is_refusal.ensures c.if-is_refusal.false c.value_of-d.ensures
-    (rw c.of.ensures at (c.constant_into-f.ensures.step t c.destination-r.result.state.registers c.destination-r.result.state.marks m)))
+    (c.constant_into-f.ensures.step t c.destination-r.result.after.registers c.destination-r.result.after.marks m))
 
 pub returns-clause-word : goal.returns-clause-word
 returns-clause-word c h =

@@ -21,7 +21,7 @@ use Rattle.codegen.proofs.Walk.{below_of, expression_of, then_into, then_freed, 
 use Rattle.codegen.proofs.Children.{child_in, walk_in, operand_of, register_of, into_of}
 use Rattle.codegen.proofs.FlatNodes.{given_operand}
 use Rattle.codegen.proofs.Operands.{register_word, operated, single_words, single_below, single_of, fetched, property_below, property_of, operator_below, operator_of, both_literal, word_literal, then_literals, then_operator}
-use Rattle.codegen.proofs.Branches.{same_fields, by_answer, counted_on, lower_logical, logical_below, logical_of, jump_words, if_below, if_of, then_else, stop_else, call_below, call_of, arguments_of, arguments_none, then_argument, marked, stop_unmarked}
+use Rattle.codegen.proofs.Branches.{same_fields, by_answer, lower_logical, logical_below, logical_of, jump_words, if_below, if_of, then_else, stop_else, call_below, call_of, arguments_of, arguments_none, then_argument, marked, stop_unmarked}
 use Rattle.codegen.proofs.Conditions.{past, literal_left, literal_value, answered_value, at_meeting, not_compared, compared_kind, compared_below, compared_jump, two_literals, two_sources}
 use Rattle.codegen.proofs.Entries.{below_absent, past_name, valued, leaf_key, key_and_value, store_both, entries_none, entries_again, entries_stop, at_next}
 use Rattle.codegen.proofs.arena.NodeRef.+walk.Goals as goal
@@ -56,7 +56,7 @@ arguments-returns-then-s-eq0-clause-lowers t c =
     let few = (call_below c.args.self.arena.now.checked _ c.requires refl c.word-first.ensures c.word-count.ensures).few in
     let checked = c.args.self.arena.now.checked in
     let argument = into_of checked _ c.peek_into-f1.ensures.inner c.peek_into-f1.ensures.same c.lower_materializing-r1.ensures.walked c.lower_materializing-r1.ensures.done c.peek_into-f1.ensures.done in
-    by_answer _ _ _ _ _ _ (c.refused.ensures.state, c.refused.ensures.answer)
+    by_answer _ _ _ _ _ c.refused.ensures
     (arguments_of _ _ _ c.word-first.ensures c.word-count.ensures
     (c.loop-i.invariant.0 ∙ then_argument _ _ _ _ _ _ c.loop-i-test.true (omega (arith, c.loop-i-test.true, few)) c.word.ensures c.local-d.ensures
     (then_into _ _ _ _ _ _ _ argument (sym c.is_refusal.ensures ∙ c.if-is_refusal.false)
@@ -67,7 +67,7 @@ arguments-returns-in_default-clause-lowers t c =
     let few = (call_below c.args.self.arena.now.checked _ c.requires refl c.word-first.ensures c.word-count.ensures).few in
     let checked = c.args.self.arena.now.checked in
     let argument = into_of checked _ c.peek_into-f1.ensures.inner c.peek_into-f1.ensures.same c.lower_materializing-r1.ensures.walked c.lower_materializing-r1.ensures.done c.peek_into-f1.ensures.done in
-    by_answer _ _ _ _ _ _ (c.refused-in_default.ensures.state, c.refused-in_default.ensures.answer)
+    by_answer _ _ _ _ _ c.refused-in_default.ensures
     (arguments_of _ _ _ c.word-first.ensures c.word-count.ensures
     (c.loop-i.invariant.0 ∙ then_argument _ _ _ _ _ _ c.loop-i-test.true (omega (arith, c.loop-i-test.true, few)) c.word.ensures c.local-d.ensures
     (then_into _ _ _ _ _ _ _ argument (sym c.is_refusal.ensures ∙ c.if-is_refusal.false)
@@ -87,7 +87,7 @@ arguments-loop-i-preserved t c =
 
 pub arguments-returns-clause-lowers : goal.arguments-returns-clause-lowers
 arguments-returns-clause-lowers t c =
-    by_answer _ _ _ _ _ _ (c.answered.ensures.state, c.answered.ensures.answer)
+    by_answer _ _ _ _ _ c.answered.ensures
     (arguments_of _ _ _ c.word-first.ensures c.word-count.ensures
     (c.loop-i.invariant.0 ∙ arguments_none _ _ _ _ _ _ c.loop-i-test.false))
 
@@ -191,8 +191,8 @@ fuse-returns-clause-lowers t c =
     (λ k e. then_by _ _ _ _ _ _ left c.is_refusal.ensures c.if-is_refusal.false c.value_of-src1.ensures
     (then_by _ _ _ _ _ _ right c.is_refusal-2.ensures c.if-is_refusal-2.false c.value_of-src2.ensures
     (two_sources _ _ c.requires c.word.ensures c.word-2.ensures _ _ _ _ k _ _
-    (rw c.of.ensures at (c.fused_jump-f.ensures.step c.lower_materializing-r2.result.state.registers c.lower_materializing-r2.result.state.marks
-    (lower_expression free_temp (arena_tree c.args.self.arena.now)) (lower_expression free_temp (arena_tree c.args.self.arena.now) c.args.self.index) k c.if-src1-src2.false e))))))
+    (c.fused_jump-f.ensures.step c.lower_materializing-r2.result.after.registers c.lower_materializing-r2.result.after.marks
+    (lower_expression free_temp (arena_tree c.args.self.arena.now)) (lower_expression free_temp (arena_tree c.args.self.arena.now) c.args.self.index) k c.if-src1-src2.false e)))))
 
 -- ---- `logical`: the left side into the destination, the jump, the right side into the same
 
@@ -270,7 +270,7 @@ logical-returns-clause-lowers t c =
     let right = into_of checked _ c.peek_into-f2.ensures.inner c.peek_into-f2.ensures.same c.lower_materializing-r2.ensures.walked c.lower_materializing-r2.ensures.done c.peek_into-f2.ensures.done in
     let few = register_word _ c.is_refusal.ensures c.if-is_refusal.false c.value_of-d.ensures (c.destination-t.ensures.word c.requires.0) in
     let told = jump_words _ _ (c.logical_jump-opcode.ensures.and, c.logical_jump-opcode.ensures.or) c.requires.1 c.reg_of.ensures in
-    by_answer _ _ _ _ _ _ (c.answered.ensures.state, c.answered.ensures.answer)
+    by_answer _ _ _ _ _ c.answered.ensures
     (logical_of checked _ c.word.ensures c.word-2.ensures c.requires.1 _ _
     (then_by tree _ register_at _ _ _ (c.destination-t.ensures.step tree _ _ _) c.is_refusal.ensures c.if-is_refusal.false c.value_of-d.ensures
     (then_into _ _ _ _ _ _ _ left (sym c.is_refusal-2.ensures ∙ c.if-is_refusal-2.false)
@@ -336,8 +336,8 @@ lower_binary-returns-then-is_refusal-4-clause-lowers t c =
     let checked = c.args.self.arena.now.checked in
     let left = operand_of checked c.peek-f1.ensures.inner c.lower_materializing-r1.ensures.walked c.lower_materializing-r1.ensures.done (λ h. c.peek-f1.ensures.operand h refl) in
     let right = operand_of checked c.peek-f2.ensures.inner c.lower_materializing-r2.ensures.walked c.lower_materializing-r2.ensures.done (λ h. c.peek-f2.ensures.operand h refl) in
-    let operated = counted_on _ _ _ _ _ c.on-e.ensures (rw c.of.ensures at (c.binary_operation-f.ensures.step c.lower_materializing-r2.result.state.registers c.lower_materializing-r2.result.state.marks
-    (lower_expression free_temp tree) c.if-src1-src2.false)) in
+    let operated = by_answer _ _ _ _ _ c.on-e.ensures (c.binary_operation-f.ensures.step c.lower_materializing-r2.result.after.registers c.lower_materializing-r2.result.after.marks
+    (lower_expression free_temp tree) c.if-src1-src2.false) in
     operator_of checked _ c.requires.1 c.word.ensures c.word-2.ensures _ _
     (then_by tree _ register_at _ _ _ (c.destination-t.ensures.step tree _ _ _) c.is_refusal.ensures c.if-is_refusal.false c.value_of-d.ensures
     (then_by tree _ (operand_at _) _ _ _ left c.is_refusal-2.ensures c.if-is_refusal-2.false c.value_of-src1.ensures
@@ -353,9 +353,9 @@ lower_binary-returns-clause-lowers t c =
     let left = operand_of checked c.peek-f1.ensures.inner c.lower_materializing-r1.ensures.walked c.lower_materializing-r1.ensures.done (λ h. c.peek-f1.ensures.operand h refl) in
     let right = operand_of checked c.peek-f2.ensures.inner c.lower_materializing-r2.ensures.walked c.lower_materializing-r2.ensures.done (λ h. c.peek-f2.ensures.operand h refl) in
     let few = register_word _ c.is_refusal.ensures c.if-is_refusal.false c.value_of-d.ensures (c.destination-t.ensures.word c.requires.0) in
-    let operated = counted_on _ _ _ _ _ c.on-e.ensures (rw c.of.ensures at (c.binary_operation-f.ensures.step c.lower_materializing-r2.result.state.registers c.lower_materializing-r2.result.state.marks
-    (lower_expression free_temp tree) c.if-src1-src2.false)) in
-    by_answer _ _ _ _ _ _ (c.answered.ensures.state, c.answered.ensures.answer)
+    let operated = by_answer _ _ _ _ _ c.on-e.ensures (c.binary_operation-f.ensures.step c.lower_materializing-r2.result.after.registers c.lower_materializing-r2.result.after.marks
+    (lower_expression free_temp tree) c.if-src1-src2.false) in
+    by_answer _ _ _ _ _ c.answered.ensures
     (operator_of checked _ c.requires.1 c.word.ensures c.word-2.ensures _ _
     (then_by tree _ register_at _ _ _ (c.destination-t.ensures.step tree _ _ _) c.is_refusal.ensures c.if-is_refusal.false c.value_of-d.ensures
     (then_by tree _ (operand_at _) _ _ _ left c.is_refusal-2.ensures c.if-is_refusal-2.false c.value_of-src1.ensures
@@ -392,7 +392,7 @@ lower_block-returns-in_default-clause-lowers t c =
     let checked = c.args.self.arena.now.checked in
     let few = register_word _ c.is_refusal.ensures c.if-is_refusal.false c.value_of-d.ensures (c.destination-t.ensures.word c.requires.0) in
     let absent_tail = eq-eqb _ _ (rw c.word.ensures at (node_absent c.node_of.ensures c.in_default.is)) in
-    by_answer _ _ _ _ _ _ (c.answered.ensures.state, c.answered.ensures.answer)
+    by_answer _ _ _ _ _ c.answered.ensures
     (expression_of checked _ block_kind c.requires.1 _ _
     (then_by tree _ register_at _ _ _ (c.destination-t.ensures.step tree _ _ _) c.is_refusal.ensures c.if-is_refusal.false c.value_of-d.ensures
     (rw absent_tail (then tree _ register_at _ _ _ (c.load_constant-r.ensures.step tree _) (sym c.is_refusal-in_default.ensures ∙ c.if-is_refusal-2.false)
@@ -447,7 +447,7 @@ lower_block-returns-clause-lowers t c =
     let tried = c.peek_into-f1.ensures in
     let walked = c.lower_materializing-r1.ensures in
     let tail = rw tail_read at (into_of checked _ tried.inner tried.same walked.walked walked.done tried.done) in
-    by_answer _ _ _ _ _ _ (c.answered-2.ensures.state, c.answered-2.ensures.answer)
+    by_answer _ _ _ _ _ c.answered-2.ensures
     (expression_of checked _ block_kind c.requires.1 _ _
     (then_by tree _ register_at _ _ _ (c.destination-t.ensures.step tree _ _ _) c.is_refusal.ensures c.if-is_refusal.false c.value_of-d.ensures
     (rw some_tail (then tree _ register_at _ _ _ tail (sym c.is_refusal-2.ensures ∙ c.if-is_refusal-3.false)
@@ -509,7 +509,7 @@ lower_call-returns-clause-lowers t c =
     let callee = register_of checked c.peek-f1.ensures.inner c.lower_materializing-r1.ensures.walked c.lower_materializing-r1.ensures.done (λ h. c.peek-f1.ensures.register h refl) in
     let few = register_word _ c.is_refusal-2.ensures c.if-is_refusal-2.false c.value_of-d.ensures (c.destination-t.ensures.word c.requires.0) in
     let told = same_fields _ c.reg_of.ensures c.reg_of-2.ensures c.word-count.ensures in
-    by_answer _ _ _ _ _ _ (c.answered.ensures.state ∙ c.given_back.ensures, c.answered.ensures.answer)
+    by_answer _ _ _ _ _ (rw c.given_back.ensures at c.answered.ensures)
     (call_of checked _ c.requires.1 c.word.ensures _ _
     (then_by tree _ unit_at _ _ _ c.arguments-a.ensures.lowers c.is_refusal.ensures c.if-is_refusal.false refl
     (then_by tree _ register_at _ _ _ (c.destination-t.ensures.step tree _ _ _) c.is_refusal-2.ensures c.if-is_refusal-2.false c.value_of-d.ensures
@@ -522,7 +522,7 @@ lower_call-returns-clause-lowers t c =
 
 pub lower_expression-returns-then-is_literal-clause-lowers : goal.lower_expression-returns-then-is_literal-clause-lowers
 lower_expression-returns-then-is_literal-clause-lowers t c =
-    rw (c.answered.ensures.state, c.answered.ensures.answer)
+    rw c.answered.ensures
     (literal_left c.args.self.arena.now.checked c.args.self.index (ltb-true _ _ (rw c.kind-kind.ensures at (sym c.is_literal.ensures ∙ c.if-is_literal.true))) (dest_of c.args.dest) _)
 
 pub lower_expression-lower_map-requires : goal.lower_expression-lower_map-requires
@@ -601,7 +601,7 @@ lower_if-returns-in_default-clause-lowers t c =
     let tree = arena_tree c.args.self.arena.now in
     let checked = c.args.self.arena.now.checked in
     let then_value = into_of checked _ c.peek_into-f1.ensures.inner c.peek_into-f1.ensures.same c.lower_materializing-r1.ensures.walked c.lower_materializing-r1.ensures.done c.peek_into-f1.ensures.done in
-    by_answer _ _ _ _ _ _ (c.refused.ensures.state, c.refused.ensures.answer)
+    by_answer _ _ _ _ _ c.refused.ensures
     (if_of checked _ c.requires.1 c.word.ensures c.word-2.ensures refl _ _
     (then_by tree _ place_at _ _ _ c.lower_jump_if_false-r.ensures.lowers c.is_refusal.ensures c.if-is_refusal.false c.value_of-jump_if_false.ensures
     (then_by tree _ register_at _ _ _ (c.destination-t.ensures.step tree _ _ _) c.is_refusal-2.ensures c.if-is_refusal-2.false c.value_of-d.ensures
@@ -662,7 +662,7 @@ lower_if-returns-clause-lowers t c =
     let then_value = into_of checked _ c.peek_into-f1.ensures.inner c.peek_into-f1.ensures.same c.lower_materializing-r1.ensures.walked c.lower_materializing-r1.ensures.done c.peek_into-f1.ensures.done in
     let else_value = into_of checked _ c.peek_into-f2.ensures.inner c.peek_into-f2.ensures.same c.lower_materializing-r2.ensures.walked c.lower_materializing-r2.ensures.done c.peek_into-f2.ensures.done in
     let few = register_word _ c.is_refusal-2.ensures c.if-is_refusal-2.false c.value_of-d.ensures (c.destination-t.ensures.word c.requires.0) in
-    by_answer _ _ _ _ _ _ (c.answered.ensures.state, c.answered.ensures.answer)
+    by_answer _ _ _ _ _ c.answered.ensures
     (if_of checked _ c.requires.1 c.word.ensures c.word-2.ensures else_read _ _
     (then_by tree _ place_at _ _ _ c.lower_jump_if_false-r.ensures.lowers c.is_refusal.ensures c.if-is_refusal.false c.value_of-jump_if_false.ensures
     (then_by tree _ register_at _ _ _ (c.destination-t.ensures.step tree _ _ _) c.is_refusal-2.ensures c.if-is_refusal-2.false c.value_of-d.ensures
@@ -750,7 +750,7 @@ unfolding lower_node words_of
 lower_map-returns-then-is_refusal-4-clause-lowers t c =
     let tree = arena_tree c.args.self.arena.now in
     let checked = c.args.self.arena.now.checked in
-    let done = rw c.of.ensures at (c.flat_entry-f.ensures.step c.loop-i.s.registers c.loop-i.s.marks (sym c.is_inner.ensures ∙ c.if-is_inner.false)) in
+    let done = c.flat_entry-f.ensures.step c.loop-i.s.registers c.loop-i.s.marks (sym c.is_inner.ensures ∙ c.if-is_inner.false) in
     expression_of checked _ map_kind c.requires.1 _ _
     (then_by tree _ register_at _ _ _ (c.destination-t.ensures.step tree _ _ _) c.is_refusal.ensures c.if-is_refusal.false c.value_of-d.ensures
     (then tree _ place_at _ _ _ (c.emit-e.ensures.step tree _ _ _ (same_fields _ c.reg_of.ensures refl refl)) (sym c.is_refusal-2.ensures ∙ c.if-is_refusal-2.false)
@@ -771,7 +771,7 @@ lower_map-loop-i-preserved t c = (
           w.is_refusal-then-is_inner.ensures w.if-is_refusal-3.false)
       | lower_map-else-is_inner+else-is_refusal-4 w ↦
           at_next _ _ _ _ _ _ (ap (λ b. b.code.now) w.buffers-is) (ap (λ b. b.constants.now) w.buffers-is) (ap (λ b. b.marks.now) w.buffers-is) w.s-is
-          (entries_again _ _ _ _ _ _ _ _ c.loop-i.invariant.1.0 _ _ _ _ c.loop-i-test.true c.word.ensures c.word-value.ensures (rw c.of.ensures at (c.flat_entry-f.ensures.step c.loop-i.s.registers c.loop-i.s.marks (sym c.is_inner.ensures ∙ w.if-is_inner.false)))
+          (entries_again _ _ _ _ _ _ _ _ c.loop-i.invariant.1.0 _ _ _ _ c.loop-i-test.true c.word.ensures c.word-value.ensures (c.flat_entry-f.ensures.step c.loop-i.s.registers c.loop-i.s.marks (sym c.is_inner.ensures ∙ w.if-is_inner.false))
           w.is_refusal-else-is_inner.ensures w.if-is_refusal-4.false)
     ],
     search rules,
@@ -784,7 +784,7 @@ lower_map-returns-clause-lowers t c =
     let tree = arena_tree c.args.self.arena.now in
     let checked = c.args.self.arena.now.checked in
     let few = register_word _ c.is_refusal.ensures c.if-is_refusal.false c.value_of-d.ensures (c.destination-t.ensures.word c.requires.0) in
-    rw (c.answered.ensures.state, c.answered.ensures.answer)
+    rw c.answered.ensures
     (expression_of checked _ map_kind c.requires.1 _ _
     (then_by tree _ register_at _ _ _ (c.destination-t.ensures.step tree _ _ _) c.is_refusal.ensures c.if-is_refusal.false c.value_of-d.ensures
     (then tree _ place_at _ _ _ (c.emit-e.ensures.step tree _ _ _ (same_fields _ c.reg_of.ensures refl refl)) (sym c.is_refusal-2.ensures ∙ c.if-is_refusal-2.false)
@@ -834,7 +834,7 @@ lower_unary-returns-clause-lowers t c =
     let operand = register_of checked c.peek-f1.ensures.inner c.lower_materializing-r1.ensures.walked c.lower_materializing-r1.ensures.done (λ h. c.peek-f1.ensures.register h refl) in
     let few = register_word _ c.is_refusal.ensures c.if-is_refusal.false c.value_of-d.ensures (c.destination-t.ensures.word c.requires.0) in
     let told = single_words _ _ _ c.only_opcode-opcode.ensures.unary c.only_opcode-opcode.ensures.not _ _ ∙ same_fields _ c.reg_of.ensures c.reg_of-2.ensures refl in
-    by_answer _ _ _ _ _ _ (c.answered.ensures.state ∙ c.given_back.ensures, c.answered.ensures.answer)
+    by_answer _ _ _ _ _ (rw c.given_back.ensures at c.answered.ensures)
     (single_of _ _ c.only_operand.ensures _ _ c.args.self.arena.now.checked c.requires.1 _ _
     (then_by tree _ register_at _ _ _ (c.destination-t.ensures.step tree _ _ _) c.is_refusal.ensures c.if-is_refusal.false c.value_of-d.ensures
     (then_by tree _ register_at _ _ _ operand c.is_refusal-2.ensures c.if-is_refusal-2.false c.value_of-src.ensures
@@ -897,7 +897,7 @@ property-returns-clause-lowers t c =
     let object = register_of checked c.peek-f1.ensures.inner c.lower_materializing-r1.ensures.walked c.lower_materializing-r1.ensures.done (λ h. c.peek-f1.ensures.register h refl) in
     let few = register_word _ c.is_refusal.ensures c.if-is_refusal.false c.value_of-d.ensures (c.destination-t.ensures.word c.requires.0) in
     let told = same_fields _ c.reg_of.ensures c.reg_of-2.ensures refl in
-    by_answer _ _ _ _ _ _ (c.answered.ensures.state ∙ c.given_back.ensures, c.answered.ensures.answer)
+    by_answer _ _ _ _ _ (rw c.given_back.ensures at c.answered.ensures)
     (property_of checked _ c.requires.1 c.word.ensures c.word-property.ensures _ _
     (then_by tree _ register_at _ _ _ (c.destination-t.ensures.step tree _ _ _) c.is_refusal.ensures c.if-is_refusal.false c.value_of-d.ensures
     (then_by tree _ register_at _ _ _ object c.is_refusal-2.ensures c.if-is_refusal-2.false c.value_of-src.ensures

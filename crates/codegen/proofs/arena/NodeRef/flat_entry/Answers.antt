@@ -16,7 +16,7 @@ returns-then-ne-is_none-clause-step c =
 pub returns-then-is_leaf-clause-inner : goal.returns-then-is_leaf-clause-inner
 returns-then-is_leaf-clause-inner c h =
     let has = not_alone _ _ _ c.kind-kind.ensures c.ne.ensures c.node_of.ensures c.is_none.ensures c.if-ne-is_none.false in
-    (c.left.ensures, ((refl, (refl, refl)), has_value _ _ c.kind-kind.ensures c.kind.ensures c.is_leaf.ensures c.is_leaf-2.ensures c.if-is_leaf.true (λ e. rw (c.value_or_key.ensures, e)) has))
+    (c.left_to_walk.ensures, ((refl, (refl, refl)), has_value _ _ c.kind-kind.ensures c.kind.ensures c.is_leaf.ensures c.is_leaf-2.ensures c.if-is_leaf.true (λ e. rw (c.value_or_key.ensures, e)) has))
 
 pub returns-in_default-clause-step : goal.returns-in_default-clause-step
 returns-in_default-clause-step c =

@@ -49,7 +49,7 @@ returns-clause-by_index c =
     let t = arena_tree c.args.self.arena.now in
     let told = c.binary_rr.ensures _ _ _
     ∙ swapped_fields _ c.reg_of-5.ensures c.swaps-swap.ensures c.first_of-a.ensures c.first_of-b.ensures c.reg_of.ensures c.reg_of-2.ensures c.reg_of-4.ensures c.reg_of-3.ensures in
-    by_answer t _ _ _ _ _ (c.answered.ensures.state, c.answered.ensures.answer)
+    by_answer t _ _ _ _ c.answered.ensures
     (two_loaded t (rw c.word-3.ensures at c.of-operator.ensures) c.word.ensures c.word-2.ensures c.literal.ensures c.literal-2.ensures _ _
     (then_by t _ register_at _ _ _ (c.load_constant-r1.ensures.step t _) c.is_refusal.ensures c.if-is_refusal.false c.value_of-src1.ensures
     (then_by t _ register_at _ _ _ (c.load_constant-r2.ensures.step t _) c.is_refusal-2.ensures c.if-is_refusal-2.false c.value_of-src2.ensures

@@ -21,7 +21,7 @@ returns-then-is_simple-clause-operand c =
     let held : Held c.args.state c.if-f-register.s c.take-taken.result.set c.number_at-register.result c.lower_flat-f.result.answer =
     elim c.if-f-register.branch [ then-f-register w ↦ held_taken _ _ w.s-is w.if-f-register.true | else-f-register w ↦ held_left _ _ w.s-is w.if-f-register.false ] in
     rw c.on.ensures
-    (peeked_operand _ _ _ _ _ _ _ _ _ _ _ _ c.if-f-register.s _ _ c.take-taken.ensures c.number_at-register.ensures held c.of.ensures simple small tried.inner tried.word c.args.self.arena.now.list.now c.args.self.arena.now.checked tried.step)
+    (peeked_operand _ _ _ _ _ _ _ _ _ _ _ _ c.if-f-register.s _ c.take-taken.ensures c.number_at-register.ensures held simple small tried.inner tried.word c.args.self.arena.now.list.now c.args.self.arena.now.checked tried.step)
 
 pub returns-then-is_simple-clause-register : goal.returns-then-is_simple-clause-register
 returns-then-is_simple-clause-register c =
@@ -31,7 +31,7 @@ returns-then-is_simple-clause-register c =
     let held : Held c.args.state c.if-f-register.s c.take-taken.result.set c.number_at-register.result c.lower_flat-f.result.answer =
     elim c.if-f-register.branch [ then-f-register w ↦ held_taken _ _ w.s-is w.if-f-register.true | else-f-register w ↦ held_left _ _ w.s-is w.if-f-register.false ] in
     rw c.on.ensures
-    (peeked_register _ _ _ _ _ _ _ _ _ _ _ _ c.if-f-register.s _ _ c.take-taken.ensures c.number_at-register.ensures held c.of.ensures simple small tried.inner tried.word c.args.self.arena.now.list.now c.args.self.arena.now.checked tried.step)
+    (peeked_register _ _ _ _ _ _ _ _ _ _ _ _ c.if-f-register.s _ c.take-taken.ensures c.number_at-register.ensures held simple small tried.inner tried.word c.args.self.arena.now.list.now c.args.self.arena.now.checked tried.step)
 
 pub returns-then-is_simple-clause-inner : goal.returns-then-is_simple-clause-inner
 returns-then-is_simple-clause-inner c =
@@ -42,15 +42,15 @@ returns-then-is_simple-clause-inner c =
     let left = left_over _ _ _ small tried.inner tried.word over in
     elim c.if-f-register.branch [
       | then-f-register w ↦ absurd (omega (arith, w.if-f-register.true, ap (λ x. x.answer) left.0))
-      | else-f-register w ↦ ((rw (w.s-is, left.0, c.of.ensures) refl, left.1), (left.2, left.3))
+      | else-f-register w ↦ ((rw (w.s-is, left.0) refl, left.1), (left.2, left.3))
     ])
 
 pub returns-clause-operand : goal.returns-clause-operand
 returns-clause-operand c =
     let small : c.args.self.index < word_end = omega arith in
-    λ told. absurd (inner_only _ _ c.inner.ensures small told)
+    λ told. absurd (inner_only _ _ (ap (λ x. x.answer) c.left_to_walk.ensures) small told)
 
 pub returns-clause-register : goal.returns-clause-register
 returns-clause-register c =
     let small : c.args.self.index < word_end = omega arith in
-    λ told. absurd (inner_only _ _ c.inner.ensures small told)
+    λ told. absurd (inner_only _ _ (ap (λ x. x.answer) c.left_to_walk.ensures) small told)

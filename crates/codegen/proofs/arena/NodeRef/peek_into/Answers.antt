@@ -14,7 +14,7 @@ returns-then-is_simple-clause-done c =
     (λ told.
     ap settled (tail.same c.args.self.arena.now.list.now _ _ _ c.args.self.arena.now.checked)
     ∙ flat_into c.args.self.arena.now.checked _ _ _ _ _ simple c.requires
-    (rw c.of.ensures at (tried.step c.args.state.registers c.args.state.marks (was_flat _ _ _ small tried.inner told))))
+    (tried.step c.args.state.registers c.args.state.marks (was_flat _ _ _ small tried.inner told)))
 
 pub returns-then-is_simple-clause-inner : goal.returns-then-is_simple-clause-inner
 returns-then-is_simple-clause-inner c =
@@ -22,7 +22,7 @@ returns-then-is_simple-clause-inner c =
     let small : c.tail_of.result < word_end = omega (arith, c.tail_of.ensures.inside) in
     let tried = c.lower_flat-f.ensures in
     rw c.on.ensures
-    (λ over. let left = left_over _ _ _ small tried.inner tried.word over in ((rw (left.0, c.of.ensures) refl, left.1), (rw left.2 tail.inside, rw left.2 left.3)))
+    (λ over. let left = left_over _ _ _ small tried.inner tried.word over in ((rw left.0 refl, left.1), (rw left.2 tail.inside, rw left.2 left.3)))
 
 pub returns-then-is_simple-clause-same : goal.returns-then-is_simple-clause-same
 returns-then-is_simple-clause-same c =
@@ -35,4 +35,4 @@ returns-then-is_simple-clause-same c =
 pub returns-clause-done : goal.returns-clause-done
 returns-clause-done c =
     let small : c.tail_of.result < word_end = omega (arith, c.tail_of.ensures.inside) in
-    λ told. absurd (inner_only _ _ c.inner.ensures small told)
+    λ told. absurd (inner_only _ _ (ap (λ x. x.answer) c.left_to_walk.ensures) small told)

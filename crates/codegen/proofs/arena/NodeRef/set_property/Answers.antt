@@ -6,16 +6,16 @@ use Rattle.codegen.proofs.arena.NodeRef.set_property.Goals as goal
 
 pub returns-then-is_refusal-clause-lowers : goal.returns-then-is_refusal-clause-lowers
 returns-then-is_refusal-clause-lowers c t E =
-    let key = rw (c.of-counts.ensures, c.key_operand.ensures) at c.field_of-first_field.ensures.literal in
-    let held = rw c.of-counts.ensures at c.field_of-first_field.ensures.register in
+    let key = rw c.key_operand.ensures at c.field_of-first_field.ensures.literal in
+    let held = c.field_of-first_field.ensures.register in
     rw c.on.ensures
     (by_fields t E _ _ _ _
     (stop_by t _ place_at _ _ _ (field_step t _ _ _ _ _ _ key held) place_at c.is_refusal.ensures c.if-is_refusal.true))
 
 pub returns-then-is_refusal-2-clause-lowers : goal.returns-then-is_refusal-2-clause-lowers
 returns-then-is_refusal-2-clause-lowers c t E =
-    let key = rw (c.of-counts.ensures, c.key_operand.ensures) at c.field_of-first_field.ensures.literal in
-    let held = rw c.of-counts.ensures at c.field_of-first_field.ensures.register in
+    let key = rw c.key_operand.ensures at c.field_of-first_field.ensures.literal in
+    let held = c.field_of-first_field.ensures.register in
     let value = rw c.literal.ensures at c.field_of-second_field.ensures.literal in
     rw c.on-then-is_refusal-2.ensures
     (by_fields t E _ _ _ _
@@ -24,8 +24,8 @@ returns-then-is_refusal-2-clause-lowers c t E =
 
 pub returns-clause-lowers : goal.returns-clause-lowers
 returns-clause-lowers c t E =
-    let key = rw (c.of-counts.ensures, c.key_operand.ensures) at c.field_of-first_field.ensures.literal in
-    let held = rw c.of-counts.ensures at c.field_of-first_field.ensures.register in
+    let key = rw c.key_operand.ensures at c.field_of-first_field.ensures.literal in
+    let held = c.field_of-first_field.ensures.register in
     let value = rw c.literal.ensures at c.field_of-second_field.ensures.literal in
     let emitted = rw (c.set_opcode-opcode.ensures, c.reg_of.ensures) at (c.emit-e.ensures.step t) in
     rw c.on-2.ensures
