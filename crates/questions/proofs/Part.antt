@@ -36,12 +36,11 @@ module _ (nodes : List ℕ) (i : ℕ) where
     unfolding node_word
     node_word_lem k h =
         let whole : length node_bytes ≡ node_size = simp (length-take, length-drop) (omega (arith, node_end)) in
-        sym (word_in node_bytes k (omega arith) refl refl refl refl)
-        ∙ word_in nodes (node_width * i + k) (omega (arith, node_end))
-        (node_byte (word_bytes * k) (word_bytes * (node_width * i + k)) (omega arith) (omega arith))
-        (node_byte (word_bytes * k + 1) (word_bytes * (node_width * i + k) + 1) (omega arith) (omega arith))
-        (node_byte (word_bytes * k + 2) (word_bytes * (node_width * i + k) + 2) (omega arith) (omega arith))
-        (node_byte (word_bytes * k + 3) (word_bytes * (node_width * i + k) + 3) (omega arith) (omega arith))
+        let byte_0 = node_byte (word_bytes * k) (word_bytes * (node_width * i + k)) (omega arith) (omega arith) in
+        let byte_1 = node_byte (word_bytes * k + 1) (word_bytes * (node_width * i + k) + 1) (omega arith) (omega arith) in
+        let byte_2 = node_byte (word_bytes * k + 2) (word_bytes * (node_width * i + k) + 2) (omega arith) (omega arith) in
+        let byte_3 = node_byte (word_bytes * k + 3) (word_bytes * (node_width * i + k) + 3) (omega arith) (omega arith) in
+        sym (word_in node_bytes k (omega arith) refl) ∙ word_in nodes (node_width * i + k) (omega (arith, node_end)) (omega (arith, byte_0, byte_1, byte_2, byte_3))
 
     -- the questions of the node, by what is read off the part
     pub asked_words : (list names : List ℕ) (next : Verdict) {kind a b c : ℕ} → kind ≡ get_or (words node_bytes) 0 0 → a ≡ get_or (words node_bytes) 1 0 → b ≡ get_or (words node_bytes) 2 0

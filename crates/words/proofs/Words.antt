@@ -3,8 +3,12 @@ use mathlib.Core.Path.{◌≡◌, refl, sym, ap, ◌∙◌}
 use mathlib.Core.List.{List, [], ◌∷◌, ◌++◌}
 use Prim.Native.Nat.{ℕ, zero, suc, ◌+◌, ◌*◌, ◌/◌, ◌%◌, ◌≤◌, ◌<◌}
 use native.Mathlib.Omega.{arith}
-use lib.ListN.{length, get_or, set, drop, length-set, get_or-eq_default}
-use lib.Seq.{set_out, drop-set-lt}
+use lib.ListN.{length, get_or, set, drop, length-drop, get_or-eq_default}
+use lib.Seq.{set_out, length-take-le}
+use borrow.Rule.Slice.PartMut.{mid_of, put_mid, same_len_mid}
+use Rattle.std.proofs.Common.{w32}
+use Rattle.std.specs.Int.{to_le_bytes}
+use Rattle.std.proofs.lemmas.Slice.{drop-put_mid}
 use Rattle.words.specs.Words.{word_of, words, tail, bytes_of}
 
 -- index 4 * suc i + k is four places past 4 * i + k
@@ -41,30 +45,17 @@ words_at_lem (a ∷ b ∷ c ∷ d ∷ s) (suc i) h =
     let h' : i < length s / 4 = omega arith in
     rw (past_1 i, past_2 i, past_3 i, past_0 i) (words_at_lem s i h')
 
--- the four bytes of word i, stored one after the other
-abbrev pub store_word : List ℕ → ℕ → ℕ → ℕ → ℕ → ℕ → List ℕ
-store_word s i a b c d = set (set (set (set s (4 * i) a) (4 * i + 1) b) (4 * i + 2) c) (4 * i + 3) d
-
-words_store : (s : List ℕ) (i x y z t : ℕ) → i < length s / 4 → words (store_word s i x y z t) ≡ set (words s) i (word_of x y z t)
+-- four bytes in the place of those of word i
+words_put : (s : List ℕ) (i x y z t : ℕ) → i < length s / 4 → words (put_mid (4 * i) 4 s (x ∷ y ∷ z ∷ t ∷ [])) ≡ set (words s) i (word_of x y z t)
 unfolding words
-words_store [] i x y z t h = absurd (omega arith)
-words_store (a ∷ []) i x y z t h = absurd (omega arith)
-words_store (a ∷ b ∷ []) i x y z t h = absurd (omega arith)
-words_store (a ∷ b ∷ c ∷ []) i x y z t h = absurd (omega arith)
-words_store (a ∷ b ∷ c ∷ d ∷ s) zero x y z t h = refl
-words_store (a ∷ b ∷ c ∷ d ∷ s) (suc i) x y z t h =
+words_put [] i x y z t h = absurd (omega arith)
+words_put (a ∷ []) i x y z t h = absurd (omega arith)
+words_put (a ∷ b ∷ []) i x y z t h = absurd (omega arith)
+words_put (a ∷ b ∷ c ∷ []) i x y z t h = absurd (omega arith)
+words_put (a ∷ b ∷ c ∷ d ∷ s) zero x y z t h = refl
+words_put (a ∷ b ∷ c ∷ d ∷ s) (suc i) x y z t h =
     let h' : i < length s / 4 = omega arith in
-    rw (past_1 i, past_2 i, past_3 i, past_0 i) (rw (words_store s i x y z t h'))
-
-tail_store : (s : List ℕ) (i x y z t : ℕ) → i < length s / 4 → tail (store_word s i x y z t) ≡ tail s
-unfolding tail
-tail_store s i x y z t h =
-    let n : ℕ = 4 * (length s / 4) in
-    rw (length-set, length-set, length-set, length-set)
-    (drop-set-lt n (set (set (set s (4 * i) x) (4 * i + 1) y) (4 * i + 2) z) (4 * i + 3) t (omega arith)
-    ∙ drop-set-lt n (set (set s (4 * i) x) (4 * i + 1) y) (4 * i + 2) z (omega arith)
-    ∙ drop-set-lt n (set s (4 * i) x) (4 * i + 1) y (omega arith)
-    ∙ drop-set-lt n s (4 * i) x (omega arith))
+    rw (past_0 i, words_put s i x y z t h') refl
 
 byte_0 : (a b c d : ℕ) → a < 256 → word_of a b c d % 256 ≡ a
 unfolding word_of
@@ -100,7 +91,7 @@ bytes_words (a ∷ b ∷ c ∷ d ∷ s) h =
     let more : bytes_of (words s) ++ drop (4 * (length s / 4)) s ≡ s = bytes_words s (λ i. h (suc (suc (suc (suc i))))) in
     rw (four, byte_0 a b c d (h 0), byte_1 a b c d (h 0) (h 1) (h 2) (h 3), byte_2 a b c d (h 0) (h 1) (h 2) (h 3), byte_3 a b c d (h 0) (h 1) (h 2) (h 3), more)
 
-word_bytes : (x : ℕ) → x < 4294967296 → word_of (x % 256) (x / 256 % 256) (x / 65536 % 256) (x / 16777216) ≡ x
+word_bytes : (x : ℕ) → x < 4294967296 → word_of (x % 256) (x / 256 % 256) (x / 65536 % 256) (x / 16777216 % 256) ≡ x
 unfolding word_of
 word_bytes x h = omega arith
 
@@ -110,27 +101,28 @@ unfolding words bytes_of
 words_bytes [] h = refl
 words_bytes (x ∷ ws) h =
     let f : x < 4294967296 = h 0 in
-    let top : x / 16777216 % 256 ≡ x / 16777216 = omega arith in
     let more : words (bytes_of ws) ≡ ws = words_bytes ws (λ i. h (suc i)) in
-    rw (top, word_bytes x f, more)
+    rw (word_bytes x f, more)
 
 -- what `word` answers
-pub word_in : (s : List ℕ) (i : ℕ) {a b c d : ℕ} → i < length s / 4
-    → a ≡ get_or s (4 * i) 0 → b ≡ get_or s (4 * i + 1) 0 → c ≡ get_or s (4 * i + 2) 0 → d ≡ get_or s (4 * i + 3) 0
-    → a + 256 * b + 65536 * c + 16777216 * d ≡ get_or (words s) i 0
+pub word_in : (s : List ℕ) (i : ℕ) {r : ℕ} → i < length s / 4
+    → r ≡ get_or s (4 * i) 0 + 256 * get_or s (4 * i + 1) 0 + 65536 * get_or s (4 * i + 2) 0 + 16777216 * get_or s (4 * i + 3) 0 → r ≡ get_or (words s) i 0
 unfolding word_of
-word_in s i h ea eb ec ed = rw (words_at_lem s i h, ea, eb, ec, ed)
+word_in s i h e = rw (words_at_lem s i h) e
 
 pub word_out : (s : List ℕ) (i : ℕ) → length s / 4 ≤ i → 0 ≡ get_or (words s) i 0
 word_out s i h = sym (get_or-eq_default (words s) 0 (omega (arith, length_words s)))
 
 -- what `put_word` leaves
-module _ (s : List ℕ) (i x : ℕ) where
-  abbrev pub stored : List ℕ
-  stored = store_word s i (x % 256) (x / 256 % 256) (x / 65536 % 256) (x / 16777216)
+pub tail_in : (s : List ℕ) (at k : ℕ) (ys : List ℕ) → at + k ≤ 4 * (length s / 4) → length ys ≡ k → tail (put_mid at k s ys) ≡ tail s
+unfolding tail
+tail_in s at k ys h e =
+    let part : length (mid_of at k s) ≡ k = length-take-le k (drop at s) (omega (arith, length-drop at s)) in
+    rw (same_len_mid at k s ys (e ∙ sym part)) (drop-put_mid at k s ys (4 * (length s / 4)) h (omega arith) e)
 
-  pub put_in : i < length s / 4 → x < 4294967296 → (words stored ≡ set (words s) i x) × (tail stored ≡ tail s)
-  put_in h f = (words_store s i _ _ _ _ h ∙ ap (set (words s) i) (word_bytes x f), tail_store s i _ _ _ _ h)
+module _ (s : List ℕ) (i x : ℕ) where
+  pub words_in : {at k : ℕ} {ys : List ℕ} → i < length s / 4 → at ≡ 4 * i → k ≡ 4 → ys ≡ to_le_bytes w32 x → x < 4294967296 → words (put_mid at k s ys) ≡ set (words s) i x
+  words_in h a b e f = rw (a, b, e) (words_put s i _ _ _ _ h ∙ ap (set (words s) i) (word_bytes x f))
 
   pub put_out : length s / 4 ≤ i → (words s ≡ set (words s) i x) × (tail s ≡ tail s)
   put_out h = (sym (set_out (words s) i x (omega (arith, length_words s))), refl)

@@ -3,7 +3,7 @@
 
 ghost use Rattle.std.specs.Prelude.{◌≡◌, ◌+◌, ◌<◌, ◌≤◌, length, get_or, set, take, drop};
 ghost use Rattle.std.proofs.lemmas.List.Edits.{sets};
-ghost use Rattle.words.specs.Words.{byte_end, words, tail};
+ghost use Rattle.words.specs.Words.{words, tail};
 ghost use Rattle.words.specs.Records.{capacity, same_words, first_position, last_position, append, buffer};
 
 use diagnostics::Refusal;
@@ -24,22 +24,14 @@ pub const WORD_END: u64 = 4294967296;
 // The most records that a count of 32 bits can say.
 pub const MAX_COUNT: u32 = u32::MAX;
 
-fn wide(x: u8) -> u32
-    ensures { (result ≡ x) × (result < byte_end) }
-{
-    x as u32
-}
-
 // The word at i, which is one of the whole words.
 #[tactic(auto, using(crate::proofs::Words::length_words, crate::proofs::Words::word_in))]
 fn whole_word(s: &[u8], i: usize) -> u32
     requires { i < length (words s.now) }
     ensures { result ≡ get_or (words s.now) i 0 }
 {
-    wide(s[WORD_BYTES * i])
-        + 256 * wide(s[WORD_BYTES * i + 1])
-        + 65536 * wide(s[WORD_BYTES * i + 2])
-        + 16777216 * wide(s[WORD_BYTES * i + 3])
+    let at = WORD_BYTES * i;
+    u32::from_le_bytes([s[at], s[at + 1], s[at + 2], s[at + 3]])
 }
 
 // The word at i; 0 past the last whole word.
@@ -55,16 +47,14 @@ pub fn word(s: &[u8], i: usize) -> u32
 }
 
 // Sets the word at i, which is one of the whole words, to x.
-#[tactic(auto, using(crate::proofs::Words::length_words))]
+#[tactic(auto, using(crate::proofs::Words::length_words, crate::proofs::Words::words_in, crate::proofs::Words::tail_in))]
 fn put_whole(s: &mut [u8], i: usize, x: u32)
     requires { i < length (words s.old) }
     ensures words { words s.new ≡ set (words s.old) i x }
     ensures tail { tail s.new ≡ tail s.old }
 {
-    s[WORD_BYTES * i] = (x % 256) as u8;
-    s[WORD_BYTES * i + 1] = (x / 256 % 256) as u8;
-    s[WORD_BYTES * i + 2] = (x / 65536 % 256) as u8;
-    s[WORD_BYTES * i + 3] = (x / 16777216) as u8;
+    let at = WORD_BYTES * i;
+    s[at..at + WORD_BYTES].copy_from_slice(&x.to_le_bytes());
 }
 
 // Sets the word at i to x; past the last whole word nothing changes.
