@@ -2,7 +2,7 @@
 use mathlib.Core.Path.{◌≡◌, refl, sym, ap, ◌∙◌}
 use mathlib.Core.List.{List, [], ◌∷◌}
 use mathlib.Core.Logic.{◌↔◌}
-use mathlib.Core.Bool.{true, false, not, cond}
+use mathlib.Core.Bool.{Bool, true, false, not, cond, false≢true}
 use Prim.Native.Nat.{ℕ, zero, suc, ◌+◌, ◌*◌, ◌/◌, ◌%◌, ◌≤◌, ◌<◌}
 use native.Mathlib.Omega.{arith}
 use native.Mathlib.Nat.{div-add-mod}
@@ -13,7 +13,6 @@ use lib.Ieee.Bits.{is_false, of_bits-to_bits, to_bits-lt, to_bits-of_bits, nan_b
 use borrow.Author.Tests.{ltb-false, ne_eqb}
 use Rattle.runtime.specs.declared.operand.Operand.{Operand}
 use Rattle.runtime.specs.Value.{constant_width, number_of, number_bits, constant_words, tag_nil, tag_bool, tag_string, parts_bits, value_bits, Admitted}
-use Rattle.runtime.proofs.Floats.{not_nan}
 
 -- a constant is three words
 pub constant_width_lem : (c : Operand) → length (constant_words c) ≡ constant_width
@@ -25,6 +24,10 @@ constant_width_lem (Operand.String symbol) = refl
 constant_width_lem (Operand.Register r) = refl
 
 -- ---- numbers
+
+not_nan : (b : Bool) → b ≡ false → T (not b)
+not_nan false h = tt
+not_nan true h = absurd (false≢true (sym h))
 
 -- a node's words to a number and back: bits that are no NaN's stay as they are
 pub number_exact : (low high : ℕ) → low < 4294967296 → high < 4294967296 → nan_bits binary64 (4294967296 * high + low) ≡ false →

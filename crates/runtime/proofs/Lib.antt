@@ -1,4 +1,3 @@
-mod Floats
 pub mod Encoding
 pub mod Constants
 pub mod Pool

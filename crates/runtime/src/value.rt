@@ -2,18 +2,17 @@
 ghost use Rattle.std.specs.Prelude.{◌≡◌};
 ghost use Rattle.std.specs.Float.{binary64};
 ghost use Rattle.std.specs.Float.Ieee.{nan_bits};
-ghost use Rattle.runtime.specs.Value.{number_of, number_bits, constant_words};
+ghost use Rattle.runtime.specs.Value.{number_of, constant_words};
 
 use crate::operand::Operand;
+use std::num::{f64_from_bits_with_nan, f64_to_bits_with_nan};
 use words::WORD_END;
 
 // The words of a constant record.
 pub const CONSTANT_WORDS: usize = 3;
 
-// The bits of the quiet NaN with no sign and no payload.
-const NAN_BITS: u64 = 0x7ff8_0000_0000_0000;
-
-// Whether bits are a NaN's: without the sign, above those of an infinity.
+// Whether bits are a NaN's: without the sign, above those of an infinity. `f64_from_bits_with_nan(bits).is_nan()` was tried: the lowering of 256 nodes takes 2 hundredths
+// more of kaori's time with it (deep 0.84 for 0.82, bushy 0.94 for 0.92, calls 1.02 for 1.00).
 pub fn is_nan(bits: u64) -> bool
     ensures { result ≡ nan_bits binary64 bits }
 {
@@ -21,26 +20,11 @@ pub fn is_nan(bits: u64) -> bool
 }
 
 // The number of a node's low and high word.
+#[tactic(auto, unfolding(crate::specs::Value::number_of))]
 pub fn number(low: u32, high: u32) -> f64
     ensures { result ≡ number_of low high }
 {
-    let bits = WORD_END * (high as u64) + (low as u64);
-    if is_nan(bits) {
-        0.0 / 0.0
-    } else {
-        f64::from_bits(bits)
-    }
-}
-
-// The bits of a number; a NaN has those of the quiet one.
-fn number_bits(value: f64) -> u64
-    ensures { result ≡ number_bits value }
-{
-    if value == value {
-        f64::to_bits(value)
-    } else {
-        NAN_BITS
-    }
+    f64_from_bits_with_nan(WORD_END * (high as u64) + (low as u64))
 }
 
 // The words of a constant: kind, low, high. A register is no constant, and gets those of nil.
@@ -53,7 +37,7 @@ pub fn constant_words(constant: Operand) -> [u32; CONSTANT_WORDS]
         Operand::Nil => [0, 0, 0],
         Operand::Boolean(value) => [1, value as u32, 0],
         Operand::Number(value) => {
-            let bits = number_bits(value);
+            let bits = f64_to_bits_with_nan(value);
             [2, (bits % WORD_END) as u32, (bits / WORD_END) as u32]
         }
         Operand::String(symbol) => [3, symbol, 0],
