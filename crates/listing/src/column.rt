@@ -31,8 +31,6 @@ const SPACE: u8 = 32;
 
 const DIGIT_ZERO: u8 = 48;
 
-const MAX_WORD: u64 = u32::MAX as u64;
-
 // A byte after spaces alone.
 #[tactic(auto, unfolding(crate::specs::Column::first))]
 fn first(b: u8) -> Column
@@ -56,11 +54,10 @@ fn more(x: u32, b: u8) -> Column
     if !b.is_ascii_digit() || x == 0 {
         return Column::Bad;
     }
-    let y = 10 * (x as u64) + ((b - DIGIT_ZERO) as u64);
-    if y <= MAX_WORD {
-        Column::Number(y as u32)
-    } else {
-        Column::Bad
+    let digit = (b - DIGIT_ZERO) as u32;
+    match x.checked_mul(10).and_then(|tens| tens.checked_add(digit)) {
+        Some(y) => Column::Number(y),
+        None => Column::Bad,
     }
 }
 
