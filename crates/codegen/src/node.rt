@@ -13,11 +13,9 @@ use runtime::operand::Operand;
 use runtime::value::number;
 use steps::answer::LITERAL;
 use steps::sources::Sources;
-use syntax::ast::NODE_WORDS;
+use syntax::ast::NODE_BYTES;
 use syntax::kind::Kind;
 use words::word;
-
-const NODE_BYTES: usize = 4 * NODE_WORDS;
 
 impl NodeRef<'_> {
     // Word k.

@@ -22,7 +22,7 @@ pub const LINE_FEED: u8 = 10;
 
 const HEADER_WORDS: usize = 5;
 
-// The bounds of a text.
+// The bounds of a text. Document 01 gives them apart from those that questions 1 and 8 ask: 4,096 nodes, 8,192 list words and 256 parameters.
 pub const MAX_NODES: u32 = 512;
 
 pub const MAX_LIST_WORDS: u32 = 512;

@@ -15,7 +15,7 @@ use listing::text::{
 use result::{numbers_of, refused_result};
 use runtime::instruction::INSTRUCTION_WORDS;
 use runtime::value::CONSTANT_WORDS;
-use syntax::ast::NODE_WORDS;
+use syntax::ast::NODE_BYTES;
 use words::WORD_BYTES;
 
 // The bounds of what the lowering of a text may make.
@@ -26,8 +26,6 @@ const MAX_CONSTANTS: usize = 512;
 const MAX_MARKS: usize = 512;
 
 // The buffers. Arrays: document 01 gives the bounds, and nothing here allocates.
-const NODE_BYTES: usize = WORD_BYTES * NODE_WORDS;
-
 const NODES_BYTES: usize = NODE_BYTES * (MAX_NODES as usize);
 
 const LIST_BYTES: usize = WORD_BYTES * (MAX_LIST_WORDS as usize);

@@ -15,12 +15,10 @@ ghost use Rattle.questions.specs.Verdict.{following, verdict};
 
 use diagnostics::{Refusal, Refused};
 use runtime::value::is_nan;
-use syntax::ast::{NODE_WORDS, node_of};
+use syntax::ast::{NODE_BYTES, NODE_WORDS, node_of};
 use syntax::kind::Kind;
 use syntax::ops::{BinaryOp, UnaryOp};
 use words::{WORD_BYTES, WORD_END, capacity, word};
-
-const NODE_BYTES: usize = WORD_BYTES * NODE_WORDS;
 
 const MAX_NODES: usize = 4096;
 

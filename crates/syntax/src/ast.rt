@@ -4,10 +4,12 @@ ghost use Rattle.words.specs.Words.{words};
 ghost use Rattle.syntax.specs.Ast.{node_of, node_word};
 
 use crate::ops::{BinaryOp, UnaryOp};
-use words::word;
+use words::{WORD_BYTES, word};
 
-// The words of a node record.
+// The words of a node record, and its bytes.
 pub const NODE_WORDS: usize = 6;
+
+pub const NODE_BYTES: usize = WORD_BYTES * NODE_WORDS;
 
 // What stands for an else, a tail or a map's value that is not there. A builder of trees writes it.
 pub const ABSENT: u32 = u32::MAX;
