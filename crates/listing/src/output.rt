@@ -2,11 +2,14 @@
 ghost use Rattle.std.specs.Prelude.{◌≡◌, ◌*◌, drop};
 ghost use Rattle.std.proofs.lemmas.List.Edits.{sets};
 ghost use Rattle.words.specs.Words.{words};
+ghost use Rattle.lowering.specs.Result.{numbers_of};
+ghost use Rattle.result.specs.Numbers.{numbers};
 ghost use Rattle.listing.specs.Output.{write_line, write_lines, printed, Leaves};
 
 use crate::column::{COLUMN_BYTES, put, write_column};
 use crate::text::LINE_FEED;
 use lowering::RESULT_WORDS;
+use result::{Result, numbers_of};
 use runtime::instruction::INSTRUCTION_WORDS;
 use runtime::value::CONSTANT_WORDS;
 use words::{WORD_BYTES, put_words, word};
@@ -45,21 +48,16 @@ pub fn write_lines(out: &mut [u8], at: usize, width: u8, count: u32, s: &[u8])
     }
 }
 
-// Prints the eight numbers of a result, and as many instructions and constants as the fifth and the sixth of them say. The answer is how many bytes
-// that is; those past the end of `out` are left out.
-#[tactic(auto, using(words::proofs::Words::length_words, crate::proofs::Texts::sets_all, crate::proofs::Written::printed_parts, crate::proofs::Written::printed_length))]
-pub fn write_listing(
-    out: &mut [u8],
-    numbers: &[u32; RESULT_WORDS],
-    code: &[u8],
-    constants: &[u8],
-) -> usize
-    ensures { Leaves (printed numbers.now (words code.now) (words constants.now)) out.old out.new result }
+// Prints the eight numbers of a result, and as many instructions and constants as it says. The answer is how many bytes that is; those past the end of `out`
+// are left out.
+pub fn write_listing(out: &mut [u8], r: Result, code: &[u8], constants: &[u8]) -> usize
+    ensures { Leaves (printed (numbers_of (numbers r)) (words code.now) (words constants.now)) out.old out.new result }
 {
     let mut line = [0u8; WORD_BYTES * RESULT_WORDS];
-    put_words(&mut line, 0, numbers);
+    let instructions = r.instructions;
+    let pooled = r.constants;
+    put_words(&mut line, 0, &numbers_of(r));
     write_line(out, 0, RESULT_WORDS as u8, &line, 0);
-    let instructions = numbers[4];
     write_lines(
         out,
         RESULT_LINE,
@@ -68,7 +66,6 @@ pub fn write_listing(
         code,
     );
     let at = RESULT_LINE + INSTRUCTION_LINE * (instructions as usize);
-    let pooled = numbers[5];
     write_lines(out, at, CONSTANT_WORDS as u8, pooled, constants);
     at + CONSTANT_LINE * (pooled as usize)
 }

@@ -12,7 +12,7 @@ use listing::output::{CONSTANT_LINE, INSTRUCTION_LINE, RESULT_LINE, write_listin
 use listing::text::{
     HEADER_LINE, Header, MAX_LIST_WORDS, MAX_NODES, MAX_PARAMETERS, NODE_LINE, WORD_LINE, read_text,
 };
-use result::{numbers_of, refused_result};
+use result::refused_result;
 use runtime::instruction::INSTRUCTION_WORDS;
 use runtime::value::CONSTANT_WORDS;
 use syntax::ast::NODE_BYTES;
@@ -85,7 +85,7 @@ fn list_tree(nodes: &[u8], root: u32, mode: u32, list: &[u8], names: &[u8], out:
         &mut constants,
         &mut marks,
     );
-    write_listing(out, &numbers_of(r), &code, &constants)
+    write_listing(out, r, &code, &constants)
 }
 
 // The same for the tree that a header describes, at the start of each buffer.
@@ -117,7 +117,7 @@ fn list_bad(out: &mut [u8]) -> usize
         refusal: Refusal::Size,
         place: 0,
     });
-    write_listing(out, &numbers_of(r), &[], &[])
+    write_listing(out, r, &[], &[])
 }
 
 // Prints the listing of a text, whatever its bytes are. The answer is how many bytes the listing has; those past the end of `out` are left out.

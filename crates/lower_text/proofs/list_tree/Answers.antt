@@ -7,4 +7,4 @@ pub returns : goal.returns
 returns c =
     let told = c.lower-r.ensures in
     let listed = tree_listing_lem _ (λ i. omega (arith, c.type_inv.nodes i)) _ _ _ _ c.lower-r.result told.result told.code told.constants told.marks in
-    rw (← listed, ← c.numbers_of.ensures) c.write_listing.ensures
+    rw (← listed) c.write_listing.ensures
