@@ -11,7 +11,8 @@ use std::io;
 use std::io::Write;
 
 // Lists an input of which the first `size` bytes of `text` were read: the whole input, or as much of it as `text` holds. What is printed is the listing of the
-// whole input in both cases: an input longer than the longest good text is bad, whatever follows.
+// whole input in both cases: an input longer than the longest good text is bad, whatever follows. The buffer and the size, and not the slice that was read: by the
+// buffer's length `main` has to show that it has more room than the longest good text.
 fn list_input(text: &[u8], size: usize, out: &mut [u8]) -> usize
     requires text_room { longest_text < length text.now }
     requires size_within { size ≤ length text.now }
