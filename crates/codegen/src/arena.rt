@@ -1,16 +1,11 @@
 // What is lent to the walk: the tree, a node of it, and the buffers.
-ghost use Rattle.std.specs.Prelude.{◌≡◌, ◌&&◌, false, ◌<◌, ◌≤◌, eqb, length};
+ghost use Rattle.std.specs.Prelude.{◌≡◌, ◌≤◌, length};
 ghost use Rattle.words.specs.Words.{words};
 ghost use Rattle.environment.specs.Environment.{lookup};
-ghost use Rattle.syntax.specs.Ast.{node_width, node_at};
-ghost use Rattle.syntax.specs.Kinds.{kind_number};
-ghost use Rattle.lowering.specs.Literals.{literal};
-ghost use Rattle.steps.specs.Answers.{literal_word, source_at, first_source, second_source};
 ghost use Rattle.lowering.specs.Tree.{tree_of};
 ghost use Rattle.lowering.specs.Checked.{Checked};
 ghost use Rattle.codegen.specs.Once.{checked_prop, falling_prop};
 ghost use Rattle.codegen.specs.Ready.{InArena};
-ghost use Rattle.codegen.specs.Kinds.{binary_kind};
 ghost use Rattle.codegen.specs.Flat.{Falling, found_at, LocalOr};
 
 use environment::{Register, lookup};

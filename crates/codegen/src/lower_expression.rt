@@ -3,6 +3,7 @@
 // will do. A child is tried first (`peek`, `peek_into`), and walked if it is not flat. A state that is passed on is a copy of its own: the walk's own state
 // then stays in machine registers. The lines that take a destination, try a child and walk it, or end an arm stand in each arm: with one function for a child,
 // bushy trees took a fifth and properties a quarter more time, and with one for the end of unary, call and property, properties a tenth.
+// Each arm asks that a destination is a register's word (`Aimed`): a type that says so would be unwrapped at each step, as the steps are public and take any word.
 ghost use Rattle.std.specs.Prelude.{◌≡◌, ◌≢◌, ◌⊎◌, ◌≤◌, true, false, List, [], ◌∷◌, ℕ, Option};
 ghost use Rattle.environment.specs.declared.Register.{Register};
 ghost use Rattle.words.specs.Words.{words};
@@ -483,10 +484,10 @@ impl NodeRef<'_> {
                 return refused(s, Refusal::Unmarked, self.index);
             }
             let marked = mark_argument(buffers.marks, s.marks, s.counts.instructions);
-            let Ok(_) = marked.place else {
-                return refused(s, Refusal::Marks, 0);
-            };
-            s.marks = marked.count;
+            match marked.place {
+                Ok(_) => s.marks = marked.count,
+                Err(refusal) => return refused(s, refusal, 0),
+            }
         }
         answered(s, 0)
     }
@@ -573,11 +574,10 @@ impl NodeRef<'_> {
                 }
                 let s1 = r.after;
                 s = s1;
+            } else if is_refusal(answer) {
+                return f.on(s);
             } else {
                 s.counts = f.after;
-                if is_refusal(answer) {
-                    return Stepped { after: s, answer };
-                }
             }
         }
         answered(s, d)

@@ -116,7 +116,7 @@ module _ (t : Tree) where
     then_appended h q = rw (← left, h) q
 
     stop_appended : (count : ℕ) (refusal : Refusal) {e : Refusal} (gives : ℕ → B) → a.place ≡ Err e → (e ≡ refusal) × (a.count ≡ count) → names_node refusal ≡ false →
-        settled (bind (placed after.answer.place (put after.words after.answer.count)) k) ≡ seen t gives (put ws count) (refusal_at refusal 0)
+        settled (bind (placed after.answer.place (put after.words after.answer.count)) k) ≡ seen t gives (put ws count) (refusal_at e 0)
     unfolding placed bind settled error_at
     stop_appended count refusal gives h same u = rw (← left, h, same.0, same.1) (sym (rw u at (seen_refusal gives (put ws count) refusal 0 (omega arith))))
 
@@ -129,7 +129,7 @@ module _ (t : Tree) where
       then_emitted h q = rw told (then_appended (λ ws count. with_code ws count m) _ code a k left h q)
 
       pub stop_emitted : {e : Refusal} (gives : ℕ → B) → a.place ≡ Err e →
-          settled (bind (emit i m) k) ≡ seen t gives (with_code code m.state.counts.instructions m) (refusal_at Refusal.Code 0)
+          settled (bind (emit i m) k) ≡ seen t gives (with_code code m.state.counts.instructions m) (refusal_at e 0)
       unfolding emit emit_instruction names_node
       stop_emitted gives h = rw told (stop_appended (λ ws count. with_code ws count m) _ code a k left _ Refusal.Code gives h (append_refused _ _ _ _ _ left h) refl)
 
@@ -140,7 +140,7 @@ module _ (t : Tree) where
       then_stored = then_appended (λ ws count. with_constants ws count m) _ pool a k left
 
       pub stop_stored : {e : Refusal} (gives : ℕ → B) → a.place ≡ Err e →
-          settled (bind (store c m) k) ≡ seen t gives (with_constants pool m.state.counts.constants m) (refusal_at Refusal.Constants 0)
+          settled (bind (store c m) k) ≡ seen t gives (with_constants pool m.state.counts.constants m) (refusal_at e 0)
       unfolding store names_node
       stop_stored {e} gives h =
           let refused = store_refused m.constants m.state.counts.constants c e (rw (← left) h) in
@@ -155,7 +155,7 @@ module _ (t : Tree) where
       then_marked h q = rw (ne_eqb m.state.counts.instructions 0 there) (then_appended (λ ws count. with_marks ws count m) _ marks a k left h q)
 
       pub stop_marked : {e : Refusal} (gives : ℕ → B) → a.place ≡ Err e →
-          settled (bind (mark call start end m) k) ≡ seen t gives (with_marks marks m.state.marks m) (refusal_at Refusal.Marks 0)
+          settled (bind (mark call start end m) k) ≡ seen t gives (with_marks marks m.state.marks m) (refusal_at e 0)
       unfolding mark names_node
       stop_marked gives h =
           rw (ne_eqb m.state.counts.instructions 0 there)

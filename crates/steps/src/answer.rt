@@ -1,5 +1,6 @@
 // What the walk answers, as one word: a register, a place, LITERAL, or a refusal with its place. A register is a temporary's number, or a local's
-// and REGISTERS more.
+// and REGISTERS more. It is a number and no `Register`, since it is part of that word: an enum would be made of the word and turned back at each step, and with an
+// `Option<Register>` as the destination deep trees took up to a tenth more time (docs/DESIGN-PASS.md).
 ghost use Rattle.std.specs.Prelude.{◌≡◌, ◌+◌, ◌%◌};
 ghost use Rattle.environment.specs.Registers.{register_count};
 ghost use Rattle.runtime.specs.Operands.{reg_of};
@@ -10,7 +11,8 @@ use environment::REGISTERS;
 use words::WORD_END;
 
 // What a step leaves, and its answer. A step that takes and gives back no register leaves the counts alone (`Stepped<Counts>`), any other one a state. The answer is a
-// word: a `Result` that holds the state was tried, and misses the speed that this form has (docs/DESIGN-PASS.md).
+// word. Tried, and slower than the goals of docs/PERFORMANCE.md allow: a `Result` that holds the state, an enum beside it, a `Result` in the steps on the counts alone
+// (docs/DESIGN-PASS.md).
 #[derive(Clone, Copy)]
 pub struct Stepped<S> {
     pub after: S,

@@ -12,7 +12,6 @@ ghost use Rattle.lowering.specs.Steps.{emit, store, load_constant};
 ghost use Rattle.steps.specs.Answers.{register_at, place_at, settled, seen, state_of, DestOrRefusal, WordOrRefusal};
 
 use crate::answer::{Stepped, answered, is_refusal, refused, reg_of, value_of};
-use diagnostics::Refusal;
 use lowering::{Counts, State};
 use runtime::function::{emit_instruction, store_constant};
 use runtime::opcode::Opcode;
@@ -48,12 +47,14 @@ pub fn emit(
     ensures word { WordOrRefusal result.answer }
 {
     let emitted = emit_instruction(code, counts.instructions, opcode, a, b, c);
-    let Ok(n) = emitted.place else {
-        return refused(counts, Refusal::Code, 0);
-    };
-    let mut made = counts;
-    made.instructions = emitted.count;
-    answered(made, n)
+    match emitted.place {
+        Ok(n) => {
+            let mut made = counts;
+            made.instructions = emitted.count;
+            answered(made, n)
+        }
+        Err(refusal) => refused(counts, refusal, 0),
+    }
 }
 
 // A constant pooled. Its place is the answer.
@@ -65,15 +66,18 @@ pub fn store(constants: &mut [u8], counts: Counts, constant: Operand) -> Stepped
     ensures word { WordOrRefusal result.answer }
 {
     let stored = store_constant(constants, counts.constants, constant);
-    let Ok(k) = stored.place else {
-        return refused(counts, Refusal::Constants, 0);
-    };
-    let mut pooled = counts;
-    pooled.constants = stored.count;
-    answered(pooled, k)
+    match stored.place {
+        Ok(k) => {
+            let mut pooled = counts;
+            pooled.constants = stored.count;
+            answered(pooled, k)
+        }
+        Err(refusal) => refused(counts, refusal, 0),
+    }
 }
 
-// A constant in d: pool, LoadConst. d is the answer.
+// A constant in d: pool, LoadConst. d is the answer. Code and constants are handed over apart, here and in the ends of operators: a struct of all buffers would ask
+// for the marks too.
 #[tactic(auto, using(crate::proofs::Words::refusal_start_lem, crate::proofs::Words::refusal_from))]
 pub fn constant_into(
     code: &mut [u8],

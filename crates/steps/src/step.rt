@@ -13,7 +13,6 @@ ghost use Rattle.steps.specs.Answers.{register_at, dest_of, place_at, settled, s
 
 use crate::answer::{Stepped, answered, is_refusal, refused, value_of};
 use crate::counted::{self, constant_into};
-use diagnostics::Refusal;
 use lowering::State;
 use patch::put_offset;
 use runtime::opcode::Opcode;
@@ -28,13 +27,15 @@ pub fn destination(state: State, dest: Option<u32>) -> Stepped<State>
     if let Some(d) = dest {
         return answered(state, d);
     }
-    let mut s = state;
-    let taken = s.registers.take();
-    let Ok(register) = taken.register else {
-        return refused(s, Refusal::Registers, 0);
-    };
-    s.registers = taken.set;
-    answered(s, register)
+    let taken = state.registers.take();
+    match taken.register {
+        Ok(register) => {
+            let mut s = state;
+            s.registers = taken.set;
+            answered(s, register)
+        }
+        Err(refusal) => refused(state, refusal, 0),
+    }
 }
 
 // Destination, pool, LoadConst.

@@ -57,7 +57,8 @@ fn put_whole(s: &mut [u8], i: usize, x: u32)
     s[at..at + WORD_BYTES].copy_from_slice(&x.to_le_bytes());
 }
 
-// Sets the word at i to x; past the last whole word nothing changes.
+// Sets the word at i to x; past the last whole word nothing changes. That the bytes past it stay is said here and in each contract above: buffers have any bytes, and a
+// type for whole words would ask more of callers.
 #[tactic(auto, using(crate::proofs::Words::length_words, crate::proofs::Words::put_out))]
 pub fn put_word(s: &mut [u8], i: usize, x: u32)
     ensures words { words s.new ≡ set (words s.old) i x }

@@ -5,13 +5,13 @@ use Rattle.steps.specs.Answers.{place_at, settled}
 use Rattle.steps.proofs.Chains.{last, seen_word, then_emitted, stop_emitted}
 use Rattle.steps.proofs.counted.emit.Goals as goal
 
-pub returns-in_default-clause-step : goal.returns-in_default-clause-step
-returns-in_default-clause-step c t i rs n p m told =
-    rw c.refused.ensures (last _ (stop_emitted t _ _ _ i told c.emit_instruction-emitted.ensures.words (λ w. place_at w) c.in_default.is))
+pub returns-in-Err-clause-step : goal.returns-in-Err-clause-step
+returns-in-Err-clause-step c t i rs n p m told =
+    rw c.refused.ensures (last _ (stop_emitted t _ _ _ i told c.emit_instruction-emitted.ensures.words (λ w. place_at w) c.in-Err.is))
 
-pub returns-clause-step : goal.returns-clause-step
+pub returns-in-Ok-clause-step : goal.returns-in-Ok-clause-step
 unfolding settled
-returns-clause-step c t i rs n p m told =
+returns-in-Ok-clause-step c t i rs n p m told =
     rw c.answered.ensures
     (last _
     (then_emitted t _ _ _ i told c.emit_instruction-emitted.ensures.words c.in-Ok.is

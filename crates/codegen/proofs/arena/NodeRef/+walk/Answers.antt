@@ -62,16 +62,16 @@ arguments-returns-then-s-eq0-clause-lowers t c =
     (then_into _ _ _ _ _ _ _ argument (sym c.is_refusal.ensures ∙ c.if-is_refusal.false)
     (stop_unmarked _ _ _ _ unit_at c.if-s-eq0.true (omega arith)))))
 
-pub arguments-returns-in_default-clause-lowers : goal.arguments-returns-in_default-clause-lowers
-arguments-returns-in_default-clause-lowers t c =
+pub arguments-returns-in-Err-clause-lowers : goal.arguments-returns-in-Err-clause-lowers
+arguments-returns-in-Err-clause-lowers t c =
     let few = (call_below c.args.self.arena.now.checked _ c.requires refl c.word-first.ensures c.word-count.ensures).few in
     let checked = c.args.self.arena.now.checked in
     let argument = into_of checked _ c.peek_into-f1.ensures.inner c.peek_into-f1.ensures.same c.lower_materializing-r1.ensures.walked c.lower_materializing-r1.ensures.done c.peek_into-f1.ensures.done in
-    by_answer _ _ _ _ _ c.refused-in_default.ensures
+    by_answer _ _ _ _ _ c.refused-in-Err.ensures
     (arguments_of _ _ _ c.word-first.ensures c.word-count.ensures
     (c.loop-i.invariant.0 ∙ then_argument _ _ _ _ _ _ c.loop-i-test.true (omega (arith, c.loop-i-test.true, few)) c.word.ensures c.local-d.ensures
     (then_into _ _ _ _ _ _ _ argument (sym c.is_refusal.ensures ∙ c.if-is_refusal.false)
-    (stop_marked _ _ _ _ _ _ _ c.if-s-eq0.false (marked _ _ _ c.if-s-eq0.false c.mark_argument-marked.ensures.words) unit_at c.in_default.is))))
+    (stop_marked _ _ _ _ _ _ _ c.if-s-eq0.false (marked _ _ _ c.if-s-eq0.false c.mark_argument-marked.ensures.words) unit_at c.in-Err.is))))
 
 pub arguments-loop-i-preserved : goal.arguments-loop-i-preserved
 arguments-loop-i-preserved t c =
@@ -751,12 +751,13 @@ lower_map-returns-then-is_refusal-4-clause-lowers t c =
     let tree = arena_tree c.args.self.arena.now in
     let checked = c.args.self.arena.now.checked in
     let done = c.flat_entry-f.ensures.step c.loop-i.s.registers c.loop-i.s.marks (sym c.is_inner.ensures ∙ c.if-is_inner.false) in
-    expression_of checked _ map_kind c.requires.1 _ _
+    rw c.on.ensures
+    (expression_of checked _ map_kind c.requires.1 _ _
     (then_by tree _ register_at _ _ _ (c.destination-t.ensures.step tree _ _ _) c.is_refusal.ensures c.if-is_refusal.false c.value_of-d.ensures
     (then tree _ place_at _ _ _ (c.emit-e.ensures.step tree _ _ _ (same_fields _ c.reg_of.ensures refl refl)) (sym c.is_refusal-2.ensures ∙ c.if-is_refusal-2.false)
     (rw (← c.word-first.ensures, ← c.word-count.ensures)
     (entries_stop _ _ _ _ _ _ _ _ c.loop-i.invariant.1.0 _ _ _ _ c.loop-i-test.true c.word.ensures c.word-value.ensures done
-    c.is_refusal-else-is_inner.ensures _ (operand_at _) c.if-is_refusal-4.true))))
+    c.is_refusal-else-is_inner.ensures _ (operand_at _) c.if-is_refusal-4.true)))))
 
 -- where the two ways meet: the entry was walked, or done in place
 pub lower_map-loop-i-preserved : goal.lower_map-loop-i-preserved
