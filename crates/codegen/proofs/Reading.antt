@@ -111,23 +111,23 @@ node_other nodes i = other (node_word nodes i 0) _ _ _
 -- ---- the node that a block comes to
 
 -- where the destination is given, n is lowered as `node` is
-abbrev pub Comes : List ℕ → ℕ → ℕ → Type 0
-Comes nodes node n =
+abbrev pub Comes : (nodes list names : List ℕ) → ℕ → ℕ → Type 0
+Comes nodes list names node n =
     (InArena nodes n × (n ≤ node))
-    × ((list names : List ℕ) (d : Register) (m : Made) → Checked (tree_of nodes list names) →
+    × ((d : Register) (m : Made) →
     lower_materializing (lower_expression free_temp (tree_of nodes list names) node) (Some d) m
     ≡ lower_materializing (lower_expression free_temp (tree_of nodes list names) n) (Some d) m)
 
-module _ {nodes : List ℕ} (falling : Falling nodes) {node n tail : ℕ} (comes : Comes nodes node n)
+module _ {nodes : List ℕ} (list names : List ℕ) (checked : Checked (tree_of nodes list names)) (falling : Falling nodes) {node n tail : ℕ} (comes : Comes nodes list names node n)
     (block : node_word_of nodes n 0 ≡ block_kind) (tail_there : (tail ≡ node_word_of nodes n 1) × (node_word_of nodes n 1 ≢ absent)) where
   pub tail_below : tail < n
   tail_below = rw tail_there.0 (falling.tail n comes.0.0 block tail_there.1)
 
-  pub tail_comes : Comes nodes node tail
+  pub tail_comes : Comes nodes list names node tail
   tail_comes = (
     (omega (arith, tail_below), omega (arith, tail_below)),
-    (λ list names d m checked.
-        comes.1 list names d m checked
+    (λ d m.
+        comes.1 d m
         ∙ block_into checked n tail (rw (← tail_there.0) at (node_kind (tree_of nodes list names) n block_kind block)) (rw (← tail_there.0) at tail_there.1) d m),
   )
 

@@ -10,10 +10,11 @@ ghost use Rattle.codegen.specs.Flat.{Falling, found_at, LocalOr};
 
 use environment::{Register, lookup};
 use steps::answer::local;
+use words::WORD_BYTES;
 
-// The tree that is lowered: what the questions passed. An arena of indices, since document 01 lends the tree as words, the compiler uses no heap, and definition and walk
+// The tree that is lowered, which passed the questions. An arena of indices, since document 01 lends the tree as words, the compiler uses no heap, and definition and walk
 // recurse over the indices.
-#[derive(Clone, Copy, Drop)]
+#[derive(Drop)]
 pub(crate) struct Arena<'a> {
     pub(crate) nodes: &'a [u8],
     pub(crate) list: &'a [u8],
@@ -23,7 +24,8 @@ pub(crate) struct Arena<'a> {
     pub ghost few: { length (words names.now) ≤ 256 },
 }
 
-// A node of the arena. Its fact goes with it: no function of the walk asks whether a node is one.
+// A node of the arena. The fact that it is one goes with it, and is proved where a node is made of a word: there the three lines stand, and no function, since each fact of a child would
+// then be one of the function's result, and be carried over in each proof.
 #[derive(Clone, Copy)]
 pub(crate) struct NodeRef<'a> {
     pub(crate) arena: &'a Arena<'a>,
@@ -31,7 +33,7 @@ pub(crate) struct NodeRef<'a> {
     pub ghost inside: { InArena arena.now.nodes.now index },
 }
 
-// The buffers that are written.
+// The buffers that are written. Each function says that the borrows are kept (`Kept`): that is about before and after, which no ghost field can tell.
 #[derive(Drop)]
 pub(crate) struct Buffers<'a> {
     pub(crate) code: &'a mut [u8],
@@ -40,16 +42,16 @@ pub(crate) struct Buffers<'a> {
 }
 
 impl Arena<'_> {
-    // The register of a name, if it is declared. An Option: where it is not, the refusal names the node, which only the caller knows.
+    // The register of a name, if it is declared. An Option: the refusal of a name that is not names the node, which is not asked for here.
     #[tactic(auto, using(words::proofs::Words::length_words))]
     pub(crate) fn find(&self, name: u32) -> Option<u32>
         ensures found { found_at result ≡ lookup (words self.now.names.now) (length (words self.now.names.now)) name }
         ensures local { LocalOr result }
     {
-        let arity = (self.names.len() / 4) as u32;
+        let arity = (self.names.len() / WORD_BYTES) as u32;
         match lookup(self.names, arity, name) {
             Ok(Register::Local(r)) => Some(local(r)),
-            Ok(Register::Temp(_)) => None,
+            Ok(Register::Temp(_)) => unreachable!(),
             Err(_) => None,
         }
     }

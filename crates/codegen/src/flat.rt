@@ -41,7 +41,7 @@ use syntax::kind::Kind;
 use syntax::ops::BinaryOp;
 
 // What is asked of a flat node: its operand (a literal stays one), its value in a register, or its value in the register given. The register d stands beside it and not in
-// it: `peek` takes one for the first two as well, and what the node needs of it is known afterwards.
+// it, since all three have one: for the first two, `peek` takes a register before it is known whether the node needs it.
 #[derive(Clone, Copy, PartialEq, Eq)]
 pub(crate) enum Asked {
     Operand,
@@ -53,9 +53,9 @@ impl NodeRef<'_> {
     // The node that a block comes to, where the destination is given: its tail's tail, and so on. A `loop`: it follows the tails, and counts nothing.
     fn tail_of(self) -> u32
         ensures inside { result ≤ self.entry.index }
-        ensures same { (list names : List ℕ) (d : Register) (m : Made) → Checked (tree_of self.entry.arena.now.nodes.now list names) →
-            lower_materializing (lower_expression free_temp (tree_of self.entry.arena.now.nodes.now list names) self.entry.index) (Some d) m
-            ≡ lower_materializing (lower_expression free_temp (tree_of self.entry.arena.now.nodes.now list names) result) (Some d) m }
+        ensures same { (d : Register) (m : Made) →
+            lower_materializing (lower_expression free_temp (arena_tree self.entry.arena.now) self.entry.index) (Some d) m
+            ≡ lower_materializing (lower_expression free_temp (arena_tree self.entry.arena.now) result) (Some d) m }
     {
         let mut n = self.index;
         loop {
@@ -197,14 +197,14 @@ impl NodeRef<'_> {
         if d == NONE {
             return refused(counts, Refusal::Registers, 0);
         }
-        let operator = BinaryOp::of(self.word(1));
         match self.leaf_operands() {
             Ok((src1, src2)) => self.binary_operation(buffers, counts, d, src1, src2),
             Err(leaf) => refused(counts, Refusal::Undeclared, leaf),
         }
     }
 
-    // A flat node, with its value in d if it needs a register. For any other node it is left to the walk, and nothing is done.
+    // A flat node, with its value in d if it needs a register. For any other node it is left to the walk, and nothing is done. A chain of tests: as a `match` on the kind, names
+    // took a quarter more time.
     #[tactic(auto, using(crate::proofs::FlatNodes::flat_leaf, crate::proofs::FlatNodes::flat_binary, crate::proofs::FlatNodes::flat_other, crate::proofs::FlatNodes::answer_word))]
     fn lower_flat(
         self,
@@ -239,7 +239,7 @@ impl NodeRef<'_> {
         self.binary_into(buffers, counts, d)
     }
 
-    // Whether a node may be flat: a quick no for most.
+    // Whether a node may be flat, by its kind alone: most nodes that are not flat are told by it.
     fn is_simple(self) -> bool
         ensures { result ≡ leb (word_at self.entry 0) binary_kind }
     {
@@ -267,7 +267,7 @@ impl NodeRef<'_> {
             // NONE where no register is free. As an Option it was slower: the flat nodes then took a few per cent more time.
             let register = number_at(taken.register);
             let f = self.lower_flat(buffers, s.counts, asked, register);
-            // It was used if it is the answer: a flag would say that a second time.
+            // The register was used if it is the answer, so no flag is needed.
             if f.answer == (register as u64) {
                 s.registers = set;
             }
@@ -276,8 +276,8 @@ impl NodeRef<'_> {
         left_to_walk(s, self.index)
     }
 
-    // A flat child in d; a block is its tail. Any other child is left to the walk, by the node that it comes to. `peek`, `peek_into` and `peek_jump` differ in what they
-    // ask and give, and share the nodes' functions and their end: one function of all three would be those differences.
+    // A flat child in d; a block is its tail. Any other child is left to the walk, by the node that it comes to. `peek`, `peek_into` and `peek_jump` share the functions of
+    // the nodes and end in `on`; what is left of each is what it asks and gives, which one function of all three would take as parameters.
     pub(crate) fn peek_into(self, buffers: &mut Buffers, state: State, d: u32) -> Stepped<State>
         requires { d < any }
         ensures done { is_inner result.answer ≡ false →
@@ -317,7 +317,7 @@ impl NodeRef<'_> {
         emit(buffers.code, counts, jump_if(sense), reg_of(register), 0, 0)
     }
 
-    // A comparison of two leaves as a condition: the fused jump. Any other operator is left to the walk. What it has in common with `binary_into` are two calls.
+    // A comparison of two leaves as a condition: the fused jump. Any other operator is left to the walk. It and `binary_into` have two tests and the operands in common, which are a call each.
     #[tactic(auto, using(steps::proofs::Words::is_inner_refusal, steps::proofs::Words::is_inner_inner, crate::proofs::FlatNodes::no_inner))]
     fn compared_leaves(self, buffers: &mut Buffers, counts: Counts, sense: bool) -> Stepped<Counts>
         requires { word_at self 0 ≡ binary_kind }
@@ -352,13 +352,11 @@ impl NodeRef<'_> {
         ensures kept { Kept buffers.old buffers.new }
     {
         let kind = self.kind();
-        if kind == Kind::Identifier {
-            return self.name_tested(buffers, counts, sense);
+        match kind {
+            Kind::Identifier => self.name_tested(buffers, counts, sense),
+            Kind::Binary => self.compared_leaves(buffers, counts, sense),
+            _ => left_to_walk(counts, self.index),
         }
-        if kind != Kind::Binary {
-            return left_to_walk(counts, self.index);
-        }
-        self.compared_leaves(buffers, counts, sense)
     }
 
     // A name, or a comparison of leaves, as a condition: the place of the jump that is taken where it gives `sense`. Any other node is left to the walk.
@@ -473,7 +471,8 @@ impl NodeRef<'_> {
         )
     }
 
-    // The jump of a comparison on two operands, where not both are literals. It and `binary_operation` are each one call: one function of both would take that call.
+    // The jump of a comparison on two operands, where not both are literals. It and `binary_operation` are each one call, on d or on the outcome: one function of both would take that
+    // call as a closure.
     pub(crate) fn fused_jump(
         self,
         buffers: &mut Buffers,
@@ -515,14 +514,10 @@ fn value_or_key(key: u32, value: u32) -> u32
 pub(crate) fn set_opcode(src1: u32, src2: u32) -> Opcode
     ensures { result ≡ set_opcode src1 src2 }
 {
-    if src1 == LITERAL {
-        if src2 == LITERAL {
-            return Opcode::SetPropertyKK;
-        }
-        return Opcode::SetPropertyKR;
+    match (src1 == LITERAL, src2 == LITERAL) {
+        (true, true) => Opcode::SetPropertyKK,
+        (true, false) => Opcode::SetPropertyKR,
+        (false, true) => Opcode::SetPropertyRK,
+        (false, false) => Opcode::SetProperty,
     }
-    if src2 == LITERAL {
-        return Opcode::SetPropertyRK;
-    }
-    Opcode::SetProperty
 }

@@ -15,7 +15,7 @@ ghost use Rattle.lowering.specs.Steps.{free_temp, patch_arguments};
 ghost use Rattle.lowering.specs.Result.{lower_root, lower};
 ghost use Rattle.steps.specs.Answers.{place_at, settled, seen};
 ghost use Rattle.codegen.specs.Walks.{Kept, Walks};
-ghost use Rattle.codegen.specs.Ready.{InArena, Ready, Lowers};
+ghost use Rattle.codegen.specs.Ready.{Ready, Lowers};
 ghost use Rattle.result.specs.Numbers.{numbers};
 ghost use Rattle.codegen.specs.Roots.{conditional};
 
@@ -29,6 +29,7 @@ use result::{Result, refused_result, result_of};
 use runtime::opcode::Opcode;
 use steps::answer::{Stepped, answered, is_refusal, refused, reg_of, value_of};
 use steps::step::emit;
+use words::WORD_BYTES;
 
 // The arguments patched, and then the answer.
 fn patch_and_answer(code: &mut [u8], marks: &mut [u8], state: State, place: u32) -> Stepped<State>
@@ -90,7 +91,7 @@ impl NodeRef<'_> {
     }
 }
 
-// The tree and the buffers are made of the slices, for the whole walk.
+// The tree and the buffers are made of the slices, for the whole walk. A function of its own: it speaks of whole words alone, and `lower_checked` of the bytes behind them.
 fn lower_lent(
     nodes: &[u8],
     list: &[u8],
@@ -136,7 +137,7 @@ fn lower_checked(
     ensures constants { constants.new ≡ bytes_of (lower nodes.now root mode list.now names.now (words code.old) (words constants.old) (words marks.old)).constants ++ tail constants.old }
     ensures marks { marks.new ≡ bytes_of (lower nodes.now root mode list.now names.now (words code.old) (words constants.old) (words marks.old)).marks ++ tail marks.old }
 {
-    let arity = (names.len() / 4) as u32;
+    let arity = (names.len() / WORD_BYTES) as u32;
     let registers = RegisterSet::with_parameters(arity);
     let state = State {
         registers,
@@ -146,9 +147,9 @@ fn lower_checked(
         },
         marks: 0,
     };
-    let whole_code = code.len() / 4 * 4;
-    let whole_constants = constants.len() / 4 * 4;
-    let whole_marks = marks.len() / 4 * 4;
+    let whole_code = code.len() / WORD_BYTES * WORD_BYTES;
+    let whole_constants = constants.len() / WORD_BYTES * WORD_BYTES;
+    let whole_marks = marks.len() / WORD_BYTES * WORD_BYTES;
     let lowered = lower_lent(
         nodes,
         list,

@@ -3,7 +3,8 @@
 // will do. A child is tried first (`peek`, `peek_into`), and walked if it is not flat. A state that is passed on is a copy of its own: the walk's own state
 // then stays in machine registers. The lines that take a destination, try a child and walk it, or end an arm stand in each arm: with one function for a child,
 // bushy trees took a fifth and properties a quarter more time, and with one for the end of unary, call and property, properties a tenth.
-// Each arm asks that a destination is a register's word (`Aimed`): a type that says so would be unwrapped at each step, as the steps are public and take any word.
+// Each arm asks what kind its node is, and that a destination is a register's word (`Aimed`): a type for either would be made, by the same proof, before each call,
+// and the second be unwrapped at each step, since the steps are public and take any word.
 ghost use Rattle.std.specs.Prelude.{◌≡◌, ◌≢◌, ◌⊎◌, ◌≤◌, true, false, List, [], ◌∷◌, ℕ, Option};
 ghost use Rattle.environment.specs.declared.Register.{Register};
 ghost use Rattle.words.specs.Words.{words};
@@ -13,14 +14,14 @@ ghost use Rattle.runtime.specs.declared.instruction.Instruction.{Instruction};
 ghost use Rattle.runtime.specs.Instruction.{words_of};
 ghost use Rattle.runtime.specs.Opcode.{opcode_number};
 ghost use Rattle.lowering.specs.Operators.{unary};
-ghost use Rattle.lowering.specs.Tree.{Tree, tree_of};
+ghost use Rattle.lowering.specs.Tree.{Tree};
 ghost use Rattle.lowering.specs.Walk.{Walk};
 ghost use Rattle.lowering.specs.Steps.{free_temp};
 ghost use Rattle.lowering.specs.Literals.{literal};
 ghost use Rattle.lowering.specs.Lower.{name_of, store_keyed, lower_arguments, lower_entry, test, jump_node, lower_expression, lower_jump_if_false};
 ghost use Rattle.steps.specs.Answers.{Aimed, register_at, dest_of, operand_at, source_at, place_at, unit_at, settled, seen, is_inner, value_of, DestOrRefusal};
 ghost use Rattle.codegen.specs.Walks.{arena_tree, word_at, tree_node, Kept, made_of, Untouched, Walks};
-ghost use Rattle.codegen.specs.Ready.{InArena, node_word_of, EntryBelow};
+ghost use Rattle.codegen.specs.Ready.{EntryBelow};
 ghost use Rattle.codegen.specs.Kinds.{name_kind, binary_kind, unary_kind, not_kind, and_kind, or_kind, if_kind, block_kind, call_kind, property_kind, map_kind, only_operand, key_operand, lower_literals, is_compared};
 
 use crate::arena::{Buffers, NodeRef};
@@ -43,7 +44,7 @@ use syntax::ops::{BinaryOp, UnaryOp};
 use words::word;
 
 impl NodeRef<'_> {
-    // A node as an expression, by its kind. A literal is LITERAL, and nothing is done. The arms that go deep are asked for first: the compiler inlines what it
+    // A node as an expression, by its kind. A literal is answered by the word LITERAL, and nothing is done. The arms that go deep are asked for first: the compiler inlines what it
     // takes for frequent. As one `match` on the kind, deep and bushy trees took a fifth more time.
     #[cycle(walk)]
     fn lower_expression(
@@ -84,7 +85,7 @@ impl NodeRef<'_> {
         }
     }
 
-    // A child that was peeked at: it is done, or the node that it comes to is walked, from the state before the peek.
+    // A child that was tried by a peek: it is done, or the node that the peek answers is walked, from the state before the peek.
     #[cycle(walk)]
     pub(crate) fn lower_materializing(
         self,
@@ -173,7 +174,7 @@ impl NodeRef<'_> {
     }
 
     // Binary, "Two literals are both loaded": each into a register that is taken, both given back. The last lines are those of `lower_binary` again: with one function
-    // for both ends, bushy trees took a tenth more time.
+    // for both ends, or with `given_back` called twice in each, bushy trees took a tenth more time.
     fn lower_literals(self, buffers: &mut Buffers, state: State, d: u32) -> Stepped<State>
         requires { word_at self 0 ≡ binary_kind }
         ensures by_index { settled (lower_literals (arena_tree self.entry.arena.now) (binary_op (word_at self.entry 1)) (word_at self.entry 2) (word_at self.entry 3) (register_at d) (made_of buffers.old state))
@@ -479,7 +480,7 @@ impl NodeRef<'_> {
             }
             let s1 = r1.after;
             s = s1;
-            // Asked here and in `mark_argument`: this refusal names the call.
+            // Asked here, since this refusal names the call; `mark_argument`, which is public, asks too, of whoever calls it.
             if s.counts.instructions == 0 {
                 return refused(s, Refusal::Unmarked, self.index);
             }
@@ -687,7 +688,7 @@ impl NodeRef<'_> {
         f
     }
 
-    // A root as a condition: `lower_jump_if_false` and `lower_jump_if_true`, by the outcome at which the jump is taken.
+    // A node as a condition, not tried first: `lower_jump_if_false` and `lower_jump_if_true`, by the outcome at which the jump is taken.
     #[cycle(walk)]
     pub(crate) fn lower_jump_if(
         self,

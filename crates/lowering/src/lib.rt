@@ -1,9 +1,9 @@
-// What the definition of lowering and the walk share: the state that goes by value.
+// What the definition of lowering and the walk share: how many numbers come back, and the state that goes by value.
 #![tactic(auto)]
 
 use environment::RegisterSet;
 
-// The eight numbers that come back, a word each.
+// How many numbers come back.
 pub const RESULT_WORDS: usize = 8;
 
 // How many instructions and how many constants are made: what a step that takes no register may change.

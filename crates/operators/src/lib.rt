@@ -1,7 +1,8 @@
 // The opcode of an operator, by where its operands are: two registers (rr), a register and a constant (rk), a constant and a register (kr); and
 // whether its operands are swapped. "Greater swaps operands, not their evaluation. A constant on the left of add, multiply, equal, not-equal
 // goes right." The arms stand in the order of kaori's lower_expression.rs and lower_ast.rs.
-// Each form keeps a table of its own, an arm an operator in that order: one table over the form would have the same arms.
+// Each form and each sense keeps a table of its own, an arm an operator in that order, as kaori has them: one table over the form would have the same arms, and one over the sense
+// would ask for the negated operator, which kaori has not.
 #![tactic(auto)]
 
 ghost use Rattle.std.specs.Prelude.{ℕ, ◌≡◌, [], ◌∷◌, Some};
@@ -126,7 +127,7 @@ pub fn is_comparison(operator: BinaryOp) -> bool
     )
 }
 
-// The jump that is taken where the comparison gives `sense`.
+// The jump that is taken where the comparison gives `sense`. Nothing is said of an operator that does not compare, here and in the next three.
 #[tactic(auto, unfolding(runtime::specs::Instruction::words_of, lowering::specs::Operators::comparison, lowering::specs::Operators::jump_rr, crate::specs::Opcodes::jump_swaps))]
 pub fn jump_rr(sense: bool, operator: BinaryOp) -> Opcode
     ensures { (c : Comparison) → comparison operator ≡ Some c → (a b : ℕ)

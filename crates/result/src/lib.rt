@@ -67,7 +67,7 @@ pub fn refused_result(refused: Refused) -> Result
 }
 
 // Whether a refusal names a node, whose span comes back. The answer of the walk has the refusal's number, so numbers are compared: a match would need
-// the refusal read back of it, with 19 arms.
+// the refusal read back from it, with 19 arms.
 #[tactic(auto, using(crate::proofs::Laws::node_named))]
 fn names_node(number: u32) -> bool
     ensures { result ≡ names_node (refusal_of number) }
@@ -78,8 +78,8 @@ fn names_node(number: u32) -> bool
         | (number == Refusal::Unmarked.number())
 }
 
-// The number of the refusal that a number stands for: 1 to 19 stand for themselves, a lower number for the first and a higher one for the last. A number,
-// since the answer of the walk has one: a match would, here too, need the refusal read back.
+// The number of the refusal that a number stands for: 1 to 19 stand for themselves. No answer of the walk has another number, but the contract of `result_of` holds of any word.
+// A number, since the answer has one: a match would, here too, need the refusal read back from it.
 #[tactic(auto, using(crate::proofs::Laws::number_clamped))]
 fn refusal_number(number: u32) -> u32
     ensures { result ≡ refusal_number (refusal_of number) }

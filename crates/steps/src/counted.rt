@@ -1,6 +1,6 @@
 // The steps on the two counts: an instruction emitted, a constant pooled, a constant loaded. They take no register, so the state stays with the walk. The counts, or a
 // state, are copied, and one field of the copy is changed: with each field written out, maps and properties took a twentieth more time.
-ghost use Rattle.std.specs.Prelude.{◌≡◌, List, [], ◌∷◌, ℕ, Option, Some};
+ghost use Rattle.std.specs.Prelude.{◌≡◌, List, [], ◌∷◌, ℕ, Some};
 ghost use Rattle.words.specs.Words.{words, tail};
 ghost use Rattle.environment.specs.declared.RegisterSet.{RegisterSet};
 ghost use Rattle.runtime.specs.declared.instruction.Instruction.{Instruction};

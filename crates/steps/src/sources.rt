@@ -35,7 +35,7 @@ pub enum Sources {
     KR(Operand, u32),
 }
 
-// The first of two operands in the order in which an instruction has them; the second is the first of the two the other way round.
+// The first of two operands in the order in which an instruction has them. The second is `first_of` of the two exchanged.
 pub fn first_of(swap: bool, a: u32, b: u32) -> u32
     ensures { result ≡ first_of swap a b }
 {
@@ -116,8 +116,8 @@ pub fn binary_sources(
     }
 }
 
-// The jump of a comparison on its sources, taken where it gives `sense`. Its place is the answer. It stands beside `binary_sources` and not in one function with it:
-// the opcode, the order of the fields and the answer differ in each of the three forms, so one function would take nine of them.
+// The jump of a comparison on its sources, taken where it gives `sense`. Its place is the answer. It stands beside `binary_sources`, and each arm by itself: the opcode is another in each arm
+// and each function, and the order of the fields in most, so what would be joined is the constant pooled, which is a call.
 #[tactic(auto, using(crate::proofs::Words::refusal_start_lem, crate::proofs::Words::refusal_from))]
 pub fn fused_sources(
     code: &mut [u8],

@@ -1,4 +1,4 @@
-// The steps on the state: a destination, and a constant loaded. Each contract equates the outcome with that of the definition's step, whatever stands in
+// The steps on the state: a destination, a constant loaded or pooled, an instruction emitted, a jump patched, a register given back. Each contract equates the outcome with that of the definition's step, whatever stands in
 // the buffers that it does not touch.
 ghost use Rattle.std.specs.Prelude.{◌≡◌, List, [], ◌∷◌, ℕ, ◌-◌};
 ghost use Rattle.words.specs.Words.{words, tail};

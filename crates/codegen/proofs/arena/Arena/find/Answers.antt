@@ -1,11 +1,11 @@
--- `codegen::read::find` meets its contract: a lookup gives a local below the arity, or nothing.
+-- `codegen::arena::find` meets its contract: a lookup gives a local below the arity, or nothing.
 use Rattle.std.proofs.Common.{ap, ◌∙◌, Ok}
 use Rattle.words.proofs.Words.{length_words}
 use Rattle.codegen.proofs.Reading.{found_temporary, found_local, found_none}
 use Rattle.codegen.proofs.arena.Arena.find.Goals as goal
 
-pub returns-in-Ok-Temp-clause-found : goal.returns-in-Ok-Temp-clause-found
-returns-in-Ok-Temp-clause-found c = absurd (found_temporary _ _ _ c.lookup.ensures (c.in-Ok-Temp.is ∙ ap Ok c.in-Ok-Temp.field-0-is))
+pub unreachable-requires : goal.unreachable-requires
+unreachable-requires c = found_temporary _ _ _ c.lookup.ensures (c.in-Ok-Temp.is ∙ ap Ok c.in-Ok-Temp.field-0-is)
 
 pub returns-in-Ok-Local-clause-found : goal.returns-in-Ok-Local-clause-found
 returns-in-Ok-Local-clause-found c =

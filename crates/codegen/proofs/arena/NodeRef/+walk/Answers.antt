@@ -406,11 +406,7 @@ lower_block-invariant_of-tail t c =
     record { inside = child_in _ _ _ c.args.self.inside (below (rw (← there.0) at there.1)) }
 
 pub lower_block-peek_into-f1-requires : goal.lower_block-peek_into-f1-requires
-lower_block-peek_into-f1-requires t c =
-    let there = node_there c.node_of.ensures c.in-Some.is in
-    let tail_read = rw c.word.ensures at there.0 in
-    let below = rw (← tail_read) at (below_of c.args.self.arena.now.checked _ block_kind c.requires.1) in
-    register_word _ c.is_refusal.ensures c.if-is_refusal.false c.value_of-d.ensures (c.destination-t.ensures.word c.requires.0)
+lower_block-peek_into-f1-requires t c = register_word _ c.is_refusal.ensures c.if-is_refusal.false c.value_of-d.ensures (c.destination-t.ensures.word c.requires.0)
 
 pub lower_block-lower_materializing-r1-requires : goal.lower_block-lower_materializing-r1-requires
 lower_block-lower_materializing-r1-requires t c =
@@ -618,11 +614,7 @@ lower_if-invariant_of-else_branch t c =
     record { inside = child_in _ _ _ c.args.self.inside ((if_below c.args.self.arena.now.checked _ c.requires.1 c.word.ensures c.word-2.ensures else_read).else some) }
 
 pub lower_if-peek_into-f2-requires : goal.lower_if-peek_into-f2-requires
-lower_if-peek_into-f2-requires t c =
-    let there = node_there c.node_of.ensures c.in-Some.is in
-    let else_read = rw c.word-3.ensures at there.0 in
-    let some = rw (← there.0) at there.1 in
-    register_word _ c.is_refusal-2.ensures c.if-is_refusal-2.false c.value_of-d.ensures (c.destination-t.ensures.word c.requires.0)
+lower_if-peek_into-f2-requires t c = register_word _ c.is_refusal-2.ensures c.if-is_refusal-2.false c.value_of-d.ensures (c.destination-t.ensures.word c.requires.0)
 
 pub lower_if-lower_materializing-r2-requires : goal.lower_if-lower_materializing-r2-requires
 lower_if-lower_materializing-r2-requires t c =

@@ -1,4 +1,4 @@
--- `codegen::arena::kind` meets its contract: each node of a checked tree has a kind.
+-- `codegen::node::kind` meets its contract: each node of a checked tree has a kind.
 use Rattle.std.proofs.Common.{sym, ◌∙◌}
 use Rattle.syntax.proofs.KindWords.{kind_number_of, kind_there}
 use Rattle.lowering.proofs.Questions.Checked.{kind_word, checked_at}

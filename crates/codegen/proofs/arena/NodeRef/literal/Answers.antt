@@ -1,4 +1,4 @@
--- `codegen::arena::literal` meets its contract, kind by kind.
+-- `codegen::node::literal` meets its contract, kind by kind.
 use Rattle.std.proofs.Common.{sym, arith}
 use Rattle.syntax.specs.declared.kind.Kind.{Kind}
 use Rattle.syntax.specs.Ast.{node_at}

@@ -12,7 +12,7 @@ returns-then-is_simple-clause-done c =
     let simple = simple_kind _ c.is_simple.ensures c.if-is_simple.true in
     rw c.on.ensures
     (λ told.
-    ap settled (tail.same c.args.self.arena.now.list.now _ _ _ c.args.self.arena.now.checked)
+    ap settled (tail.same _ _)
     ∙ flat_into c.args.self.arena.now.checked _ _ _ _ _ simple c.requires
     (tried.step c.args.state.registers c.args.state.marks (was_flat _ _ _ small tried.inner told)))
 
@@ -30,7 +30,7 @@ returns-then-is_simple-clause-same c =
     let small : c.tail_of.result < word_end = omega (arith, c.tail_of.ensures.inside) in
     let tried = c.lower_flat-f.ensures in
     rw c.on.ensures
-    (λ e m over. let left = left_over _ _ _ small tried.inner tried.word over in rw left.2 (tail.same c.args.self.arena.now.list.now _ e m c.args.self.arena.now.checked))
+    (λ e m over. let left = left_over _ _ _ small tried.inner tried.word over in rw left.2 (tail.same e m))
 
 pub returns-clause-done : goal.returns-clause-done
 returns-clause-done c =

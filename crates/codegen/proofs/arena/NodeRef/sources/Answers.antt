@@ -1,4 +1,4 @@
--- `codegen::arena::sources` meets its contract: by which word is a literal's.
+-- `codegen::node::sources` meets its contract: by which word is a literal's.
 use Rattle.std.proofs.Common.{eq-eqb, ne_eqb, false}
 use lib.Dec.{eqb}
 use mathlib.Core.Path.{◌≡◌}

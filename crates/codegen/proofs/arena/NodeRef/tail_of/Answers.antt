@@ -5,14 +5,14 @@ use Rattle.codegen.proofs.Reading.{kind_same, node_there, tail_below, tail_comes
 use Rattle.codegen.proofs.arena.NodeRef.tail_of.Goals as goal
 
 pub loop-node-init : goal.loop-node-init
-loop-node-init c = ((c.args.self.inside, omega arith), (λ list names d m checked. refl))
+loop-node-init c = ((c.args.self.inside, omega arith), (λ d m. refl))
 
 pub loop-node-smaller : goal.loop-node-smaller
 loop-node-smaller c =
     let block = kind_same _ Kind.Block c.kind.ensures c.ne.ensures c.if-ne.false in
-    tail_below c.args.self.arena.now.falling c.loop-node.invariant block (rw c.word.ensures at (node_there c.node_of.ensures c.in-Some.is))
+    tail_below _ _ c.args.self.arena.now.checked c.args.self.arena.now.falling c.loop-node.invariant block (rw c.word.ensures at (node_there c.node_of.ensures c.in-Some.is))
 
 pub loop-node-preserved : goal.loop-node-preserved
 loop-node-preserved c =
     let block = kind_same _ Kind.Block c.kind.ensures c.ne.ensures c.if-ne.false in
-    tail_comes c.args.self.arena.now.falling c.loop-node.invariant block (rw c.word.ensures at (node_there c.node_of.ensures c.in-Some.is))
+    tail_comes _ _ c.args.self.arena.now.checked c.args.self.arena.now.falling c.loop-node.invariant block (rw c.word.ensures at (node_there c.node_of.ensures c.in-Some.is))

@@ -1,4 +1,4 @@
--- `codegen::read::node_word` meets its contract: the node's own bytes are a part of the arena's.
+-- `codegen::node::word` meets its contract: the node's own bytes are a part of the arena's.
 use Rattle.std.proofs.Common.{◌∙◌, arith}
 use Rattle.questions.proofs.Part.{node_end, node_word_lem}
 use Rattle.codegen.proofs.arena.NodeRef.word.Goals as goal
