@@ -1,16 +1,11 @@
 // What is lent to the walk: the tree, a node of it, and the buffers.
-ghost use Rattle.std.specs.Prelude.{◌≡◌, ◌≤◌, length};
+ghost use Rattle.std.specs.Prelude.{◌≤◌, length};
 ghost use Rattle.words.specs.Words.{words};
-ghost use Rattle.environment.specs.Environment.{lookup};
 ghost use Rattle.lowering.specs.Tree.{tree_of};
 ghost use Rattle.lowering.specs.Checked.{Checked};
 ghost use Rattle.codegen.specs.Once.{checked_prop, falling_prop};
 ghost use Rattle.codegen.specs.Ready.{InArena};
-ghost use Rattle.codegen.specs.Flat.{Falling, found_at, LocalOr};
-
-use environment::{Register, lookup};
-use steps::answer::local;
-use words::WORD_BYTES;
+ghost use Rattle.codegen.specs.Flat.{Falling};
 
 // The tree that is lowered, which passed the questions. An arena of indices, since document 01 lends the tree as words, the compiler uses no heap, and definition and walk
 // recurse over the indices.
@@ -39,20 +34,4 @@ pub(crate) struct Buffers<'a> {
     pub(crate) code: &'a mut [u8],
     pub(crate) constants: &'a mut [u8],
     pub(crate) marks: &'a mut [u8],
-}
-
-impl Arena<'_> {
-    // The register of a name, if it is declared. An Option: the refusal of a name that is not names the node, which is not asked for here.
-    #[tactic(auto, using(words::proofs::Words::length_words))]
-    pub(crate) fn find(&self, name: u32) -> Option<u32>
-        ensures found { found_at result ≡ lookup (words self.now.names.now) (length (words self.now.names.now)) name }
-        ensures local { LocalOr result }
-    {
-        let arity = (self.names.len() / WORD_BYTES) as u32;
-        match lookup(self.names, arity, name) {
-            Ok(Register::Local(r)) => Some(local(r)),
-            Ok(Register::Temp(_)) => unreachable!(),
-            Err(_) => None,
-        }
-    }
 }

@@ -80,7 +80,7 @@ impl NodeRef<'_> {
         ensures literal { word_at self.entry 0 ≢ name_kind → result ≡ Some literal_word }
     {
         if self.kind() == Kind::Identifier {
-            return self.arena.find(self.word(1));
+            return self.find();
         }
         Some(LITERAL)
     }
@@ -137,7 +137,7 @@ impl NodeRef<'_> {
         ensures word { WordOrRefusal result.answer }
         ensures kept { Kept buffers.old buffers.new }
     {
-        let Some(register) = self.arena.find(self.word(1)) else {
+        let Some(register) = self.find() else {
             return refused(counts, Refusal::Undeclared, self.index);
         };
         let Some(d) = dest else {
@@ -311,7 +311,7 @@ impl NodeRef<'_> {
         ensures word { WordOrRefusal result.answer }
         ensures kept { Kept buffers.old buffers.new }
     {
-        let Some(register) = self.arena.find(self.word(1)) else {
+        let Some(register) = self.find() else {
             return refused(counts, Refusal::Undeclared, self.index);
         };
         emit(buffers.code, counts, jump_if(sense), reg_of(register), 0, 0)
@@ -407,6 +407,7 @@ impl NodeRef<'_> {
         ensures kept { Kept buffers.old buffers.new }
     {
         let kind = self.kind();
+        // A key alone is asked for first, as kaori does. In one `match` with the child, each later fact would have to be shown for both ways to it.
         if (kind != Kind::Identifier) & node_of(value).is_none() {
             return refused(counts, Refusal::Key, self.index);
         }

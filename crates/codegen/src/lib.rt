@@ -1,4 +1,5 @@
-// Lowering a tree (kaori's codegen/lower_ast.rs): the questions, the walk from the root by the mode, and the arguments patched.
+// Lowering a tree (kaori's codegen/lower_ast.rs): the questions, the walk from the root by the mode, and the arguments patched. Plain comparisons are joined by `&`, in this
+// crate as in questions.
 #![tactic(auto)]
 
 mod arena;

@@ -586,6 +586,7 @@ impl NodeRef<'_> {
 
     // One entry that was left to the walk, so it has a value. A key that is a name or a literal is pooled after the value is lowered; any other key is lowered
     // before its value.
+    // Key and value are words here: as nodes they would have to be of this node's arena, which is one clause more.
     #[cycle(walk)]
     fn entry(
         self,

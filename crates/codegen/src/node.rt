@@ -1,21 +1,24 @@
-// What the walk reads of a node: its words, without a test, its kind, and its literal.
-ghost use Rattle.std.specs.Prelude.{◌≡◌, ◌&&◌, false, ◌<◌, eqb};
+// What the walk reads of a node: its words, without a test, its kind, its literal, and the register of a name.
+ghost use Rattle.std.specs.Prelude.{◌≡◌, ◌&&◌, false, ◌<◌, eqb, length};
 ghost use Rattle.words.specs.Words.{words};
+ghost use Rattle.environment.specs.Environment.{lookup};
 ghost use Rattle.syntax.specs.Ast.{node_width, node_at};
 ghost use Rattle.syntax.specs.Kinds.{kind_number};
 ghost use Rattle.lowering.specs.Literals.{literal};
 ghost use Rattle.steps.specs.Answers.{literal_word, source_at, first_source, second_source};
 ghost use Rattle.codegen.specs.Walks.{word_at, tree_node};
 ghost use Rattle.codegen.specs.Kinds.{binary_kind};
+ghost use Rattle.codegen.specs.Flat.{found_at, LocalOr};
 
 use crate::arena::NodeRef;
+use environment::{Register, lookup};
 use runtime::operand::Operand;
 use runtime::value::number;
-use steps::answer::LITERAL;
+use steps::answer::{LITERAL, local};
 use steps::sources::Sources;
 use syntax::ast::NODE_BYTES;
 use syntax::kind::Kind;
-use words::word;
+use words::{WORD_BYTES, word};
 
 impl NodeRef<'_> {
     // Word k.
@@ -79,5 +82,20 @@ impl NodeRef<'_> {
             return Sources::RK(src1, right.literal());
         }
         Sources::RR(src1, src2)
+    }
+
+    // The register of a name, if it is declared. An Option: the refusal of a name that is not is made by the caller, which has the counts.
+    #[tactic(auto, using(words::proofs::Words::length_words))]
+    pub(crate) fn find(self) -> Option<u32>
+        ensures found { found_at result ≡ lookup (words self.entry.arena.now.names.now) (length (words self.entry.arena.now.names.now)) (word_at self.entry 1) }
+        ensures local { LocalOr result }
+    {
+        let names = self.arena.names;
+        let arity = (names.len() / WORD_BYTES) as u32;
+        match lookup(names, arity, self.word(1)) {
+            Ok(Register::Local(r)) => Some(local(r)),
+            Ok(Register::Temp(_)) => unreachable!(),
+            Err(_) => None,
+        }
     }
 }

@@ -6,12 +6,10 @@ use Rattle.codegen.proofs.arena.NodeRef.name_tested.Goals as goal
 
 pub returns-in_default-clause-step : goal.returns-in_default-clause-step
 returns-in_default-clause-step c =
-    let found = rw c.word.ensures at c.find.ensures.found in
     rw c.refused.ensures
-    (λ rs n. condition_name_undeclared _ _ c.requires _ found _ _ _ (λ w. place_at w) c.in_default.is (omega arith))
+    (λ rs n. condition_name_undeclared _ _ c.requires _ c.find.ensures.found _ _ _ (λ w. place_at w) c.in_default.is (omega arith))
 
 pub returns-clause-step : goal.returns-clause-step
 returns-clause-step c rs n =
-    let found = rw c.word.ensures at c.find.ensures.found in
-    condition_name _ _ c.requires _ found _ _ _ c.in-Some.is
+    condition_name _ _ c.requires _ c.find.ensures.found _ _ _ c.in-Some.is
     (c.emit.ensures.step _ _ rs n _ _ (rw c.reg_of.ensures (c.jump_if.ensures _)))
