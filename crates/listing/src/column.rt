@@ -27,22 +27,19 @@ impl Column {
 
 pub const COLUMN_BYTES: usize = 11;
 
-const SPACE: u8 = 32;
+const SPACE: u8 = b' ';
 
-const DIGIT_ZERO: u8 = 48;
+const DIGIT_ZERO: u8 = b'0';
 
 // A byte after spaces alone.
 #[tactic(auto, unfolding(crate::specs::Column::first))]
 fn first(b: u8) -> Column
     ensures { result ≡ first b }
 {
-    if b == SPACE {
-        return Column::Blank;
-    }
-    if b.is_ascii_digit() {
-        Column::Number((b - DIGIT_ZERO) as u32)
-    } else {
-        Column::Bad
+    match b {
+        SPACE => Column::Blank,
+        b'0'..=b'9' => Column::Number((b - DIGIT_ZERO) as u32),
+        _ => Column::Bad,
     }
 }
 
@@ -95,7 +92,7 @@ pub fn read_column(s: &[u8], at: usize) -> Column
     said(column)
 }
 
-// Sets the byte at i to b; past the end nothing changes. By index: of what `get_mut` lends, nothing says what the slice ends as.
+// Sets the byte at i to b; past the end nothing changes. By index: the contract of `get_mut` does not say what the slice holds afterwards.
 pub fn put(s: &mut [u8], i: usize, b: u8)
     ensures { s.new ≡ set s.old i b }
 {
@@ -116,8 +113,8 @@ fn padding(x: u32) -> u8
     }
 }
 
-// Writes the column of x, the last digit first; bytes past the end are left out. Not by the library's printing, which is to a `str` of any width: a column has
-// 11 bytes, which stand in the text that is lent, and there is no heap.
+// Writes the column of x, the last digit first; bytes past the end are left out. The library prints a number to a `str`, which may have any width; a column is 11
+// bytes of the slice that is lent, and there is no heap.
 #[tactic(auto, using(words::proofs::Records::sets_out, crate::proofs::Columns::padded_more, crate::proofs::Columns::column_last), unfolding(crate::specs::Column::padded))]
 pub fn write_column(s: &mut [u8], at: usize, x: u32)
     ensures { s.new ≡ sets s.old at (write_column x) }

@@ -21,7 +21,8 @@ pub const INSTRUCTION_LINE: usize = COLUMN_BYTES * INSTRUCTION_WORDS + 1;
 
 pub const CONSTANT_LINE: usize = COLUMN_BYTES * CONSTANT_WORDS + 1;
 
-// Writes record `place` of `width` words as a line that begins at `at`; bytes past the end are left out.
+// Writes record `place` of `width` words as a line that begins at `at`; bytes past the end are left out. The width is a byte, so that the sums fit: with a
+// const parameter of type `usize` the proof stops at `COLUMN_BYTES * WIDTH`, and the public `write_lines` may have no `requires`.
 #[tactic(auto, using(words::proofs::Records::sets_out, crate::proofs::Written::write_line_start, crate::proofs::Written::write_line_more, crate::proofs::Written::write_line_end))]
 fn write_line(out: &mut [u8], at: usize, width: u8, s: &[u8], place: u32)
     ensures { out.new ≡ sets out.old at (write_line width (drop (width * place) (words s.now))) }
@@ -49,7 +50,7 @@ pub fn write_lines(out: &mut [u8], at: usize, width: u8, count: u32, s: &[u8])
 }
 
 // Prints the eight numbers of a result, and as many instructions and constants as it says. The answer is how many bytes that is; those past the end of `out`
-// are left out.
+// are left out. The numbers go through bytes so that one function writes every line: one for words would be a second loop, with its own proof.
 pub fn write_listing(out: &mut [u8], r: Result, code: &[u8], constants: &[u8]) -> usize
     ensures { Leaves (printed (numbers_of (numbers r)) (words code.now) (words constants.now)) out.old out.new result }
 {

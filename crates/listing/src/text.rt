@@ -18,7 +18,7 @@ pub struct Header {
     pub names: u32,
 }
 
-pub const LINE_FEED: u8 = 10;
+pub const LINE_FEED: u8 = b'\n';
 
 const HEADER_WORDS: usize = 5;
 
@@ -29,7 +29,7 @@ pub const MAX_LIST_WORDS: u32 = 512;
 
 pub const MAX_PARAMETERS: u32 = 256;
 
-// The bytes of a line of one column, and of the lines of a header and of a node. Each is written out, since a constant's value calls no function.
+// The bytes of a line of one column, and of the lines of a header and of a node. Each is written out, since a constant's value may call no function.
 pub const WORD_LINE: usize = COLUMN_BYTES + 1;
 
 pub const HEADER_LINE: usize = COLUMN_BYTES * HEADER_WORDS + 1;
@@ -87,7 +87,8 @@ fn byte(s: &[u8], i: usize) -> u8
     s.get(i).copied().unwrap_or(0)
 }
 
-// Reads the line of `width` columns at `at` into record `place`, up to the first column that is none. The answer is whether it is such a line.
+// Reads the line of `width` columns at `at` into record `place`, up to the first column that is none. The answer is whether it is such a line. The
+// width is a byte, as in `write_line` of output, and for its reason.
 #[tactic(auto, using(crate::proofs::Lines::line_out, crate::proofs::Lines::line_start, crate::proofs::Lines::line_more, crate::proofs::Lines::line_fault, crate::proofs::Lines::line_end_lem))]
 fn read_line(s: &[u8], at: usize, width: u8, out: &mut [u8], place: u32) -> bool
     ensures words { read_as (words out.new) result ≡ fill (words out.old) (width * place) (read_line width (drop at s.now)) }
