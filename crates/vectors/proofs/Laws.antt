@@ -1,11 +1,11 @@
 -- Laws of a record of answers, as the replay's loops need them: where a line and the comments end, and one case more.
 -- Assumes nothing.
 use Rattle.std.specs.Prelude.{Option, Some, None}
-use Rattle.std.specs.Option.{MatchOption}
+use Rattle.std.specs.Option.{MatchOption, option_or}
 use Rattle.std.specs.List.{position, position_or_len}
 use Prim.Native.Nat.{ℕ, zero, suc, ◌+◌, ◌-◌, ◌≤◌, ◌<◌}
 use native.Mathlib.Omega.{arith}
-use native.Mathlib.Decide.{ℕ_discrete, dec_le}
+use native.Mathlib.Decide.{dec_le}
 use native.Mathlib.Numerals.{unary_clauses}
 use mathlib.Core.Path.{◌≡◌, refl, sym, ap, ◌∙◌}
 use mathlib.Core.List.{List, [], ◌∷◌}
@@ -162,6 +162,15 @@ differing_within (suc n) s at l = go (dec_le (case_at s at).next (length s)) (λ
         or_here false h = λ place e. let z : at ≡ place = cc in rw z at l
     go (no m) below = rw (cases_cut s at (suc n) (omega arith)) (within_none s)
 
+-- what was found stays the first, whatever is found after it
+or_first : (found : Option ℕ) (at : ℕ) (later : Option ℕ) → option_or (option_or found (Some at)) later ≡ option_or found (Some at)
+or_first None at later = refl
+or_first (Some p) at later = refl
+
+or_none : (found : Option ℕ) → option_or found None ≡ found
+or_none None = refl
+or_none (Some p) = refl
+
 -- all cases: `told` of them, the first at `first`
 module _ (s : List ℕ) (told first : ℕ) where
   abbrev all : List ℕ
@@ -178,12 +187,11 @@ module _ (s : List ℕ) (told first : ℕ) where
     pub few : count ≤ i
     pub counts : count + agreeing s (left at i) ≡ agreeing s all
     pub ends : end_of s at (left at i) ≡ end_of s first all
-    -- as long as all agree, none is found, and the first that differs is the first of those left
-    pub none : count ≡ i → (found ≡ None) × (differing s (left at i) ≡ differing s all)
-    pub once : (count ≡ i → ⊥) → found ≡ differing s all
+    -- the first that differs is the one found, or the first of those left
+    pub finds : option_or found (differing s (left at i)) ≡ differing s all
 
   pub start : first ≤ length s → Replayed first None 0 0
-  start l = record { within = l; few = omega arith; counts = simp unary_clauses (omega arith); ends = simp unary_clauses; none = λ e. (refl, simp unary_clauses); once = λ n. absurd (n refl) }
+  start l = record { within = l; few = omega arith; counts = simp unary_clauses (omega arith); ends = simp unary_clauses; finds = simp unary_clauses }
 
   -- one case more, c at `at`
   module _ {at count i : ℕ} {found : Option ℕ} (r : Replayed at found count i) (more : i < told) {c : Case} (is : c ≡ case_at s at) (fits : c.next ≤ length s) where
@@ -204,13 +212,11 @@ module _ (s : List ℕ) (told first : ℕ) where
           few = omega (arith, r.few);
           counts = omega (arith, r.counts, ap (agreeing s) split, agreeing_more s at rest e');
           ends = ended;
-          none = λ q. let old = r.none (omega arith) in (old.0, sym (ap (differing s) split ∙ differing_later s at rest e') ∙ old.1);
-          once = λ n. r.once (λ q. n (omega arith));
+          finds = ap (option_or found) (sym (ap (differing s) split ∙ differing_later s at rest e')) ∙ r.finds;
         })
 
-    -- the first that differs
-    pub differs : agrees s c ≡ false → count ≡ i → Replayed c.next (Some at) count (i + 1)
-    differs e q =
+    pub differs : agrees s c ≡ false → Replayed c.next (option_or found (Some at)) count (i + 1)
+    differs e =
         let e' : agrees s (case_at s at) ≡ false = rw is at e in
         let rest = left (case_at s at).next (i + 1) in
         rw is (record {
@@ -218,22 +224,7 @@ module _ (s : List ℕ) (told first : ℕ) where
           few = omega (arith, r.few);
           counts = omega (arith, r.counts, ap (agreeing s) split, agreeing_same s at rest e');
           ends = ended;
-          none = λ p. absurd (omega arith);
-          once = λ n. sym (ap (differing s) split ∙ differing_here s at rest e') ∙ (r.none q).1;
-        })
-
-    -- one more that differs
-    pub differs_again : agrees s c ≡ false → (count ≡ i → ⊥) → Replayed c.next found count (i + 1)
-    differs_again e q =
-        let e' : agrees s (case_at s at) ≡ false = rw is at e in
-        let rest = left (case_at s at).next (i + 1) in
-        rw is (record {
-          within = rw is at fits;
-          few = omega (arith, r.few);
-          counts = omega (arith, r.counts, ap (agreeing s) split, agreeing_same s at rest e');
-          ends = ended;
-          none = λ p. absurd (omega (arith, r.few));
-          once = λ n. r.once q;
+          finds = or_first found at (differing s rest) ∙ ap (option_or found) (sym (ap (differing s) split ∙ differing_here s at rest e')) ∙ r.finds;
         })
 
   -- none is left
@@ -252,13 +243,9 @@ module _ (s : List ℕ) (told first : ℕ) where
     finished empty =
         let counted : count ≡ agreeing s all = let z : agreeing s (left at i) ≡ 0 = rw empty in omega (arith, r.counts) in
         let ended : at ≡ end_of s first all = let z : at ≡ end_of s at (left at i) = rw empty in z ∙ r.ends in
-        let z : differing s (left at i) ≡ None = rw empty in
-        let first_found : found ≡ differing s all = go z (ℕ_discrete count i) in
+        let none : differing s (left at i) ≡ None = rw empty in
+        let first_found : found ≡ differing s all = sym (or_none found) ∙ ap (option_or found) (sym none) ∙ r.finds in
         (rw (counted, ended, first_found, told_so, first_so), rw first_found (differing_within told s first begins))
-      where
-        go : differing s (left at i) ≡ None → Dec (count ≡ i) → found ≡ differing s all
-        go z (yes e) = (r.none e).0 ∙ sym z ∙ (r.none e).1
-        go z (no n) = r.once n
 
     pub all_replayed : told ≤ i → ReplayGives at found count
     all_replayed l = finished (none_left at i l)

@@ -97,15 +97,15 @@ fn replay(answers: &[u8]) -> Outcome
     let mut at = line_end(answers, comments);
     let mut differing = None;
     let mut agreeing: u32 = 0;
-    for i in 0..cases {
+    for _ in 0..cases {
         let c = case_at(answers, at);
         if answers.len() < c.next {
             break;
         }
         if agrees(&answers[c.text..c.answer], &answers[c.answer..c.next]) {
             agreeing += 1;
-        } else if agreeing == i {
-            differing = Some(at);
+        } else {
+            differing = differing.or(Some(at));
         }
         at = c.next;
     }

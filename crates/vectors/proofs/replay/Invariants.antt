@@ -2,5 +2,5 @@
 use Rattle.vectors.proofs.Laws.{Replayed}
 use Rattle.vectors.proofs.replay.Given as goal
 
-abbrev pub invariant-loop-i : goal.invariant-loop-i
-invariant-loop-i l = Replayed l.answers l.cases l.initial.at l.at l.differing l.agreeing l.i
+abbrev pub invariant-loop : goal.invariant-loop
+invariant-loop l = Replayed l.answers l.cases l.initial.at l.at l.differing l.agreeing l.counter
