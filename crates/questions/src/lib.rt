@@ -2,15 +2,15 @@
 // `&&` stands where what follows costs more.
 #![tactic(auto)]
 
-ghost use Rattle.std.specs.Prelude.{◌≡◌, true, OnOk, leb, List, ℕ, ◌+◌, ◌*◌, ◌≤◌, ◌<◌, length, get_or, take, drop};
+ghost use Rattle.std.specs.Prelude.{◌≡◌, true, OnOk, leb, List, ℕ, ◌+◌, ◌*◌, ◌≤◌, ◌<◌, length, take, drop};
 ghost use Rattle.diagnostics.specs.declared.Refusal.{Refusal};
 ghost use Rattle.words.specs.Words.{words};
 ghost use Rattle.words.specs.Records.{capacity};
-ghost use Rattle.syntax.specs.declared.ast.Node.{Node};
-ghost use Rattle.syntax.specs.Ast.{node_kinds, node_width};
+ghost use Rattle.syntax.specs.Ast.{node_width};
 ghost use Rattle.syntax.specs.Kinds.{kind_number};
 ghost use Rattle.lowering.specs.Tree.{present, entry_nodes, children, tree_of};
 ghost use Rattle.lowering.specs.Questions.{question1, question4, question5, question6, all_below, Verdict, ask, ask_node, ask_nodes, questions};
+ghost use Rattle.questions.specs.Fields.{of_fields, fields_node};
 ghost use Rattle.questions.specs.Verdict.{following, verdict};
 
 use diagnostics::{Refusal, Refused};
@@ -115,13 +115,13 @@ struct Fields {
     c: u32,
 }
 
-// By reference: handed over by value, bushy trees and maps took 2 to 4 per cent more time. The compiler makes one jump of the matches on the kind, so a node costs
-// one jump and the comparisons of its kind, a call and a map too.
+// By reference: by value, bushy trees and maps took 2 to 4 per cent more time, and the bushy one of 4,096 nodes 1.00 for 0.95 of kaori's (21.1 to 22.0 ns a node
+// for 20.8). The compiler joins the matches on the kind: for each node, calls and maps too, it jumps once by the kind, and then compares what that kind asks.
 impl Fields {
     // 4: whether boolean and operator words are in their ranges, unused words 0.
     #[tactic(auto, unfolding(lowering::specs::Questions::question4))]
     fn words_used(&self) -> bool
-        ensures { result ≡ question4 (kind_number self.now.kind) self.now.a self.now.b self.now.c }
+        ensures { result ≡ of_fields question4 self.now }
     {
         let Fields { kind, a, b, c } = *self;
         match kind {
@@ -160,7 +160,7 @@ impl Fields {
     // 6: whether a node's part of the list, which has `size` words, is inside it, arguments few enough. Sums and doubles pass 32 bits.
     #[tactic(auto, unfolding(lowering::specs::Questions::question6))]
     fn part_inside(&self, size: usize) -> bool
-        ensures { result ≡ question6 size (kind_number self.now.kind) self.now.a self.now.b self.now.c }
+        ensures { result ≡ of_fields (question6 size) self.now }
     {
         let Fields { kind, a, b, c } = *self;
         match kind {
@@ -173,8 +173,8 @@ impl Fields {
     // 7: whether every node that node i names is lower than itself.
     #[tactic(auto, using(crate::proofs::Below::below_one, crate::proofs::Below::below_two, crate::proofs::Below::below_two_more, crate::proofs::Tables::call_inside, crate::proofs::Tables::map_inside), unfolding(lowering::specs::Tree::children, lowering::specs::Questions::all_below))]
     fn children_below(&self, list: &[u8], i: u32) -> bool
-        requires { question6 (length (words list.now)) (kind_number self.now.kind) self.now.a self.now.b self.now.c ≡ true }
-        ensures { result ≡ all_below i (children (words list.now) (get_or node_kinds (kind_number self.now.kind) (λ x y z. Node.Nil) self.now.a self.now.b self.now.c)) }
+        requires { of_fields (question6 (length (words list.now))) self.now ≡ true }
+        ensures { result ≡ all_below i (children (words list.now) (fields_node self.now)) }
     {
         let Fields { kind, a, b, c } = *self;
         match kind {
@@ -195,10 +195,10 @@ impl Fields {
     // Questions 4 to 7 of node i.
     #[tactic(auto, using(words::proofs::Words::length_words, std::proofs::lemmas::Result::err_from_is_err_and))]
     fn check(&self, list: &[u8], i: u32) -> Result<(), Refused>
-        ensures { (next : Verdict) → following result next ≡ ask (question4 (kind_number self.now.kind) self.now.a self.now.b self.now.c) Refusal.Unused i
+        ensures { (next : Verdict) → following result next ≡ ask (of_fields question4 self.now) Refusal.Unused i
             (ask (question5 (kind_number self.now.kind) self.now.a self.now.b) Refusal.Number i
-            (ask (question6 (length (words list.now)) (kind_number self.now.kind) self.now.a self.now.b self.now.c) Refusal.List i
-            (ask (all_below i (children (words list.now) (get_or node_kinds (kind_number self.now.kind) (λ x y z. Node.Nil) self.now.a self.now.b self.now.c))) Refusal.Order i
+            (ask (of_fields (question6 (length (words list.now))) self.now) Refusal.List i
+            (ask (all_below i (children (words list.now) (fields_node self.now))) Refusal.Order i
             next))) }
     {
         ask(self.words_used(), Refusal::Unused, i)?;
@@ -209,7 +209,7 @@ impl Fields {
     }
 }
 
-// Questions 3 to 7 of node i. Its words are read from its own bytes, a slice of known length: so the compiler leaves the test in `word` out.
+// Questions 3 to 7 of node i. Its words are read from its own bytes, a slice of known length: so the compiler leaves out the test in `word`.
 #[tactic(auto, using(words::proofs::Words::length_words, crate::proofs::Part::asked_words, crate::proofs::Tables::kind_asked, crate::proofs::Tables::kind_none, syntax::proofs::KindWords::kind_number_of), unfolding(words::specs::Records::capacity))]
 fn check_node(nodes: &[u8], list: &[u8], i: u32) -> Result<(), Refused>
     requires { i < capacity node_width (words nodes.now) }
