@@ -25,7 +25,7 @@ const MAX_CONSTANTS: usize = 512;
 
 const MAX_MARKS: usize = 512;
 
-// The buffers. Arrays: document 01 gives the bounds, and nothing here allocates.
+// The buffers. They are arrays: document 01 bounds the program's texts and what their lowering may make, and nothing here allocates.
 const NODES_BYTES: usize = NODE_BYTES * (MAX_NODES as usize);
 
 const LIST_BYTES: usize = WORD_BYTES * (MAX_LIST_WORDS as usize);
@@ -38,8 +38,8 @@ const CONSTANTS_BYTES: usize = WORD_BYTES * CONSTANT_WORDS * MAX_CONSTANTS;
 
 const MARKS_BYTES: usize = WORD_BYTES * MAX_MARKS;
 
-// The bytes of the longest text within the bounds; of a buffer for a text, one more, so that a text that is too long is not taken for a good one; and of the longest
-// listing.
+// How many bytes the longest text within the bounds has, a buffer for a text, and the longest listing. The buffer has one byte more than that text, so that no
+// text that is too long is cut to a good one.
 const TEXT_BYTES: usize = HEADER_LINE
     + NODE_LINE * (MAX_NODES as usize)
     + WORD_LINE * (MAX_LIST_WORDS as usize)
@@ -51,7 +51,7 @@ const LISTING_BUFFER: usize = RESULT_LINE
     + INSTRUCTION_LINE * MAX_INSTRUCTIONS
     + CONSTANT_LINE * MAX_CONSTANTS;
 
-// Zeros, for a text. What is read into it prints what the whole text does, however long that is: a text is cut only after the length of the longest good one.
+// Zeros, for a text. A text that does not fit is cut, and the cut text has the same listing as the whole one: both are longer than any good text.
 pub fn text_buffer() -> [u8; TEXT_BUFFER]
     ensures length { longest_text + 1 ≡ length result }
     ensures zeros { result ≡ replicate (longest_text + 1) 0 }
