@@ -46,7 +46,7 @@ module _ (r i : ℕ) where
   pub bit_in_other : r / 64 ≢ i → bit_in i r ≡ 0
   bit_in_other e = rw (ne_eqb (r / 64) i e)
 
--- the words that `flipped` makes: each with the register's bit in it turned over
+-- the words that `give_back` makes: each with the register's bit in it turned over
 abbrev pub flipped_words : List ℕ → ℕ → List ℕ
 flipped_words ws r = bit_xor (get_or ws 0 0) (bit_in 0 r) ∷ bit_xor (get_or ws 1 0) (bit_in 1 r) ∷ bit_xor (get_or ws 2 0) (bit_in 2 r) ∷ bit_xor (get_or ws 3 0) (bit_in 3 r) ∷ []
 

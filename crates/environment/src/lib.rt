@@ -16,7 +16,7 @@ pub const REGISTERS: u32 = 256;
 const BITS: u32 = 64;
 
 // A word of free registers: every bit is set.
-const ALL_FREE: u64 = 0xffff_ffff_ffff_ffff;
+const ALL_FREE: u64 = u64::MAX;
 
 // A temporary is given back once its value has been read. A local, which is a parameter or the destination of an argument, never is.
 #[derive(Clone, Copy)]
@@ -50,13 +50,8 @@ fn bit_in(i: u32, r: u32) -> u64
 fn held_below(arity: u32, first: u32) -> u64
     ensures { result ≡ 2 ^ word_bits - 2 ^ min word_bits (arity - first) }
 {
-    if arity <= first {
-        ALL_FREE
-    } else if arity - first < BITS {
-        ALL_FREE << (arity - first)
-    } else {
-        0
-    }
+    let held = arity.saturating_sub(first);
+    ALL_FREE.checked_shl(held).unwrap_or(0)
 }
 
 // Nothing that the lowering calls indexes a set's words by a variable: that would keep the set in memory.
@@ -96,31 +91,7 @@ impl RegisterSet {
         None
     }
 
-    // The set with the bit of register r turned over; a number past the last register changes nothing. The first word, which has nearly
-    // every register of a rule, has a branch of its own.
-    fn flipped(self, r: u32) -> RegisterSet
-        ensures { result ≡ given_back self r }
-    {
-        let words = self.words;
-        let frame_size = self.frame_size;
-        if r < BITS {
-            return RegisterSet {
-                words: [words[0] ^ (1u64 << r), words[1], words[2], words[3]],
-                frame_size,
-            };
-        }
-        RegisterSet {
-            words: [
-                words[0],
-                words[1] ^ bit_in(1, r),
-                words[2] ^ bit_in(2, r),
-                words[3] ^ bit_in(3, r),
-            ],
-            frame_size,
-        }
-    }
-
-    // Takes the smallest free register.
+    // Takes the smallest free register: its bit is set, so giving it back clears the bit.
     pub fn take(self) -> Taken<u32>
         ensures { result ≡ taken self }
     {
@@ -130,20 +101,37 @@ impl RegisterSet {
                 register: Err(Refusal::Registers),
             };
         };
-        let flipped = self.flipped(r);
-        let words = flipped.words;
-        let frame_size = self.frame_size.max(r + 1);
+        let flipped = self.give_back(r);
         Taken {
-            set: RegisterSet { words, frame_size },
+            set: RegisterSet {
+                frame_size: self.frame_size.max(r + 1),
+                ..flipped
+            },
             register: Ok(r),
         }
     }
 
-    // Gives register r back; a number past the last register changes nothing.
+    // Gives register r back: its bit is turned over. A number past the last register changes nothing. The first word, which has nearly
+    // every register of a rule, has a branch of its own.
     pub fn give_back(self, r: u32) -> RegisterSet
         ensures { result ≡ given_back self r }
     {
-        self.flipped(r)
+        let words = self.words;
+        if r < BITS {
+            return RegisterSet {
+                words: [words[0] ^ (1u64 << r), words[1], words[2], words[3]],
+                ..self
+            };
+        }
+        RegisterSet {
+            words: [
+                words[0],
+                words[1] ^ bit_in(1, r),
+                words[2] ^ bit_in(2, r),
+                words[3] ^ bit_in(3, r),
+            ],
+            ..self
+        }
     }
 
     // Whether register r is held; a number past the last register is not.
@@ -161,7 +149,7 @@ impl RegisterSet {
         }
     }
 
-    // `allocate_temp` differs in the constructor alone. One function of both would get it as a closure, with a `requires` and an `ensures` by cases: more than these lines.
+    // Takes the smallest free register as a local. `allocate_temp` differs in the constructor alone; one function of both would get it as a closure, with a `requires` and an `ensures` by cases: more lines.
     #[tactic(auto, unfolding(crate::specs::Environment::allocated, crate::specs::Environment::found))]
     pub fn allocate_local(self) -> Taken<Register>
         ensures { result ≡ allocated Register.Local self }
@@ -173,7 +161,7 @@ impl RegisterSet {
         }
     }
 
-    // As `allocate_local`, with the other constructor.
+    // Takes the smallest free register as a temporary.
     #[tactic(auto, unfolding(crate::specs::Environment::allocated, crate::specs::Environment::found))]
     pub fn allocate_temp(self) -> Taken<Register>
         ensures { result ≡ allocated Register.Temp self }
@@ -216,8 +204,7 @@ impl RegisterSet {
 pub fn lookup(names: &[u8], arity: u32, name: u32) -> Result<Register, Refusal>
     ensures { result ≡ lookup (words names.now) arity name }
 {
-    match last_position(names, arity, name) {
-        Some(i) => Ok(Register::Local(i)),
-        None => Err(Refusal::Undeclared),
-    }
+    last_position(names, arity, name)
+        .map(Register::Local)
+        .ok_or(Refusal::Undeclared)
 }

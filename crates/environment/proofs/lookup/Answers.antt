@@ -1,5 +1,6 @@
 -- `lookup` meets its contract: the place of the last name that is the one says which register. Assumes nothing.
 use Rattle.std.proofs.Common.{◌≡◌, refl, sym, ◌∙◌, Bool, true, false, cond, List, ℕ, zero, suc, eqb, get_or, Option, Some, None, Result, Ok, Err}
+use Rattle.std.specs.Option.{MatchOption, IsSomeAnd, ok_or}
 use Rattle.words.specs.Words.{words}
 use Rattle.words.specs.Records.{last_position}
 use Rattle.diagnostics.specs.declared.Refusal.{Refusal}
@@ -22,8 +23,13 @@ lookup_place names (suc n) x = go (eqb (get_or names n 0) x) (lookup_place names
     go true ih = refl
     go false ih = ih
 
-pub returns-in-Some : goal.returns-in-Some
-returns-in-Some c = sym (lookup_place (words c.args.names.now) c.args.arity c.args.name ∙ rw (← c.last_position.ensures, c.in-Some.is))
+answer : (o : Option ℕ) (m : Option Register) → MatchOption o (m ≡ None) (λ x. IsSomeAnd m (λ r. r ≡ Register.Local x)) → ok_or m Refusal.Undeclared ≡ local o
+answer (Some x) (Some r) h = rw h
+answer (Some x) None h = elim h [ ]
+answer None m h = rw h
 
-pub returns-in-None : goal.returns-in-None
-returns-in-None c = sym (lookup_place (words c.args.names.now) c.args.arity c.args.name ∙ rw (← c.last_position.ensures, c.in-None.is))
+pub returns : goal.returns
+returns c =
+    let names = words c.args.names.now in
+    let place : c.ok_or.result ≡ local c.last_position.result = c.ok_or.ensures.value ∙ answer _ _ c.map.ensures.cases in
+    place ∙ rw c.last_position.ensures (sym (lookup_place names c.args.arity c.args.name))

@@ -34,7 +34,7 @@ module _ (s : RegisterSet) {o : Option ℕ} (is : o ≡ cond (ltb (smallest_free
       go false h p = rw h
 
 pub returns : goal.returns
-returns c = taken_at c.args.self c.smallest_free.ensures c.in-Some.is c.flipped-flipped.ensures (omega arith)
+returns c = taken_at c.args.self c.smallest_free.ensures c.in-Some.is c.give_back-flipped.ensures (omega arith)
 
 pub returns-in_default : goal.returns-in_default
 returns-in_default c = taken_none c.args.self c.smallest_free.ensures c.in_default.is

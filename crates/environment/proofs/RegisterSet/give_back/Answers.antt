@@ -1,11 +1,11 @@
--- `RegisterSet::flipped` meets its contract: in each word the register's bit is turned over, which is 0 in all words but one. Assumes nothing.
+-- `RegisterSet::give_back` meets its contract: in each word the register's bit is turned over, which is 0 in all words but one. Assumes nothing.
 use Rattle.std.proofs.Common.{◌≡◌, ◌∙◌, [], ◌∷◌, ℕ, ◌*◌, ◌%◌, ◌^◌, ◌<◌, ◌≤◌, arith, length, get_or}
 use lib.Bits.{bit_xor, xor_zero_r}
 use Rattle.environment.specs.declared.RegisterSet.{RegisterSet}
 use Rattle.environment.specs.Registers.{given_back}
 use Rattle.environment.proofs.Bits.{shift_one}
 use Rattle.environment.proofs.Four.{bit_in, bit_in_same, bit_in_other, given_back_words}
-use Rattle.environment.proofs.RegisterSet.flipped.Goals as goal
+use Rattle.environment.proofs.RegisterSet.give_back.Goals as goal
 
 module _ (s : RegisterSet) (r : ℕ) (whole : length s.words ≡ 4) where
   -- a register of the first word
