@@ -116,22 +116,18 @@ impl RegisterSet {
     pub fn give_back(self, r: u32) -> RegisterSet
         ensures { result ≡ given_back self r }
     {
-        let words = self.words;
-        if r < BITS {
-            return RegisterSet {
-                words: [words[0] ^ (1u64 << r), words[1], words[2], words[3]],
-                ..self
-            };
-        }
-        RegisterSet {
-            words: [
-                words[0],
-                words[1] ^ bit_in(1, r),
-                words[2] ^ bit_in(2, r),
-                words[3] ^ bit_in(3, r),
-            ],
-            ..self
-        }
+        let old = self.words;
+        let words = if r < BITS {
+            [old[0] ^ (1u64 << r), old[1], old[2], old[3]]
+        } else {
+            [
+                old[0],
+                old[1] ^ bit_in(1, r),
+                old[2] ^ bit_in(2, r),
+                old[3] ^ bit_in(3, r),
+            ]
+        };
+        RegisterSet { words, ..self }
     }
 
     // Whether register r is held; a number past the last register is not.

@@ -33,5 +33,5 @@ module _ (s : RegisterSet) (r : ℕ) (whole : length s.words ≡ 4) where
 pub returns-then-r-lt-BITS : goal.returns-then-r-lt-BITS
 returns-then-r-lt-BITS c = first _ _ (omega arith) c.if-r-lt-BITS.true
 
-pub returns : goal.returns
-returns c = other _ _ (omega arith) c.if-r-lt-BITS.false _ _ _ c.bit_in.ensures c.bit_in-2.ensures c.bit_in-3.ensures
+pub returns-else-r-lt-BITS : goal.returns-else-r-lt-BITS
+returns-else-r-lt-BITS c = other _ _ (omega arith) c.if-r-lt-BITS.false _ _ _ c.bit_in.ensures c.bit_in-else-r-lt-BITS.ensures c.bit_in-else-r-lt-BITS-2.ensures
