@@ -1,4 +1,5 @@
-// Little-endian words in byte slices, and records of words.
+// Little-endian words in byte slices, and records of words. Each function that writes says that the bytes past the last whole word stay (`tail`): buffers have any
+// bytes, and a type for whole words would ask more of callers.
 #![tactic(auto)]
 
 ghost use Rattle.std.specs.Prelude.{◌≡◌, ◌+◌, ◌<◌, ◌≤◌, length, get_or, set, take, drop};
@@ -19,7 +20,7 @@ pub struct Appended {
 pub const WORD_BYTES: usize = 4;
 
 // Words are below it.
-pub const WORD_END: u64 = 4294967296;
+pub const WORD_END: u64 = 1 << 32;
 
 // The most records that a count of 32 bits can say.
 pub const MAX_COUNT: u32 = u32::MAX;
@@ -57,8 +58,7 @@ fn put_whole(s: &mut [u8], i: usize, x: u32)
     s[at..at + WORD_BYTES].copy_from_slice(&x.to_le_bytes());
 }
 
-// Sets the word at i to x; past the last whole word nothing changes. That the bytes past it stay is said here and in each contract above: buffers have any bytes, and a
-// type for whole words would ask more of callers.
+// Sets the word at i to x; past the last whole word nothing changes.
 #[tactic(auto, using(crate::proofs::Words::length_words, crate::proofs::Words::put_out))]
 pub fn put_word(s: &mut [u8], i: usize, x: u32)
     ensures words { words s.new ≡ set (words s.old) i x }
@@ -111,14 +111,12 @@ pub fn append(s: &mut [u8], count: u32, limit: u32, item: &[u32], refusal: Refus
 {
     let width = item.len();
     let at = count as usize;
-    if count < limit {
-        if at < capacity(s, width) {
-            put_record(s, width * at, item);
-            return Appended {
-                count: count + 1,
-                place: Ok(count),
-            };
-        }
+    if count < limit && at < capacity(s, width) {
+        put_record(s, width * at, item);
+        return Appended {
+            count: count + 1,
+            place: Ok(count),
+        };
     }
     Appended {
         count,
@@ -127,6 +125,7 @@ pub fn append(s: &mut [u8], count: u32, limit: u32, item: &[u32], refusal: Refus
 }
 
 // Whether the words from `at` on are those of `item`. Constants differ in their last word more often than in their first, which is their kind.
+// Over `item.iter().enumerate().rev()` it was tried, and its invariant did not close: the loop then has an iterator over pairs, and no number k.
 fn same_words(s: &[u8], at: usize, item: &[u32]) -> bool
     requires { at + length item.now ≤ length (words s.now) }
     ensures { result ≡ same_words (take (length item.now) (drop at (words s.now))) item.now }
@@ -139,7 +138,7 @@ fn same_words(s: &[u8], at: usize, item: &[u32]) -> bool
     true
 }
 
-// The place of the first of the first `count` records that is `item`.
+// The place of the first of the first `count` records that is `item`. No `find` here, and no `rfind` below: their closures would need contracts of their own, more lines than the loop.
 pub fn position(s: &[u8], count: u32, item: &[u32]) -> Option<u32>
     ensures { result ≡ first_position (words s.now) item.now count }
 {

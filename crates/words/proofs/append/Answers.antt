@@ -5,6 +5,7 @@ use Rattle.words.specs.Records.{put_record}
 use Rattle.words.proofs.Words.{length_words}
 use Rattle.words.proofs.Records.{room, append_room, append_full, append_limit}
 use Rattle.words.proofs.append.Goals as goal
+use Rattle.words.proofs.append.Goals.{else-count-limit-via-then-count-limit+else-at-capacity, else-count-limit-via-else-count-limit}
 
 pub overflow_mul-width : goal.overflow_mul-width
 overflow_mul-width c =
@@ -21,8 +22,10 @@ returns-then-at-capacity-clause-words c =
     let a = c.args in
     rw c.put_record.ensures.words (sym (append_room _ _ _ a.item.now a.refusal c.if-count-limit.true (rw c.capacity.ensures at c.if-at-capacity.true)))
 
-pub returns-else-at-capacity-clause-words : goal.returns-else-at-capacity-clause-words
-returns-else-at-capacity-clause-words c = sym (append_full _ _ _ c.args.item.now c.args.refusal (rw c.capacity.ensures at c.if-at-capacity.false))
-
-pub returns-else-count-limit-clause-words : goal.returns-else-count-limit-clause-words
-returns-else-count-limit-clause-words c = sym (append_limit _ _ _ c.args.item.now c.args.refusal c.if-count-limit.false)
+pub returns-clause-words : goal.returns-clause-words
+returns-clause-words c =
+    let item = c.args.item.now in
+    elim c.else-count-limit.branch [
+      | else-count-limit-via-then-count-limit+else-at-capacity w ↦ sym (append_full _ _ _ item c.args.refusal (rw w.capacity.ensures at w.if-at-capacity.false))
+      | else-count-limit-via-else-count-limit w ↦ sym (append_limit _ _ _ item c.args.refusal w.if-count-limit.false)
+    ]
