@@ -34,7 +34,7 @@ pub struct Refused {
     pub place: u32,
 }
 
-// The same with the span of that place.
+// The same with the span of that place. No `Refused` is in it: each place of the definitions that reads `error.refusal` would say `error.refused.refusal`.
 #[derive(Drop)]
 pub struct Error {
     pub refusal: Refusal,

@@ -14,11 +14,11 @@ ghost use Rattle.questions.specs.Fields.{of_fields, fields_node};
 ghost use Rattle.questions.specs.Verdict.{following, verdict};
 
 use diagnostics::{Refusal, Refused};
-use runtime::value::is_nan;
+use runtime::value::{bits, is_nan};
 use syntax::ast::{NODE_BYTES, NODE_WORDS, node_of};
 use syntax::kind::Kind;
 use syntax::ops::{BinaryOp, UnaryOp};
-use words::{WORD_BYTES, WORD_END, capacity, word};
+use words::{WORD_BYTES, capacity, word};
 
 const MAX_NODES: usize = 4096;
 
@@ -150,8 +150,7 @@ impl Fields {
     {
         if self.kind == Kind::Number {
             let (low, high) = (self.a, self.b);
-            let bits = WORD_END * (high as u64) + (low as u64);
-            !is_nan(bits) & !((low == 0) & (high == MINUS_ZERO_HIGH))
+            !is_nan(bits(low, high)) & !((low == 0) & (high == MINUS_ZERO_HIGH))
         } else {
             true
         }

@@ -280,21 +280,10 @@ pub fn has_destination(kind: u32) -> bool
     ensures { result ≡ has_destination kind }
 {
     // Add to CreateMap; GetProperty; CreateClosure and CreateRef; Deref and Call.
-    if kind < (Opcode::SetProperty as u32) {
-        true
-    } else if kind < (Opcode::GetProperty as u32) {
-        false
-    } else if kind < (Opcode::GetPropertyK as u32) {
-        true
-    } else if kind < (Opcode::CreateClosure as u32) {
-        false
-    } else if kind < (Opcode::DerefSet as u32) {
-        true
-    } else if kind < (Opcode::Deref as u32) {
-        false
-    } else {
-        kind < (Opcode::Return as u32)
-    }
+    kind < (Opcode::SetProperty as u32)
+        || ((Opcode::GetProperty as u32) <= kind && kind < (Opcode::GetPropertyK as u32))
+        || ((Opcode::CreateClosure as u32) <= kind && kind < (Opcode::DerefSet as u32))
+        || ((Opcode::Deref as u32) <= kind && kind < (Opcode::Return as u32))
 }
 
 // Which word of a jump is its offset; 0, the kind's own word, for a kind that is no jump. The kind is, here too, a word of any buffer,

@@ -110,9 +110,6 @@ module _ {w : ℕ} (k K : Kind) (e : kind_number k ≡ w) where
   pub differs_number : not (sameb the_type k K) ≡ not (eqb w (kind_number K))
   differs_number = ap not same_number
 
-  -- what an arm of a match knows of the word, and what those after it know
-  pub number_is : k ≡ K → w ≡ kind_number K
-  number_is q = sym e ∙ ap kind_number q
-
+  -- what the arms of a match after that of K know of the word
   pub number_is_not : (k ≡ K → ⊥) → w ≡ kind_number K → ⊥
   number_is_not f q = f (number_one k K (e ∙ q))

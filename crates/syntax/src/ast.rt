@@ -14,7 +14,8 @@ pub const NODE_BYTES: usize = WORD_BYTES * NODE_WORDS;
 // What stands for an else, a tail or a map's value that is not there. A builder of trees writes it.
 pub const ABSENT: u32 = u32::MAX;
 
-// A node as the definition has it: an else or a tail that is not there is ABSENT, as in the record. No code makes one.
+// A node as the definition has it: its numbers are the record's words, as document 01 gives them. So an else or a tail that is not there is ABSENT and no `Option`; `node_of`
+// reads it as one. No code makes a `Node`.
 #[derive(Drop)]
 pub enum Node {
     Number {

@@ -35,7 +35,7 @@ pub enum Comparison {
 }
 
 impl BinaryOp {
-    // The operator of a word; a word past the last operator reads as the last. No `TryFrom`: its error type would say nothing, since no word is refused.
+    // The operator of a word; a word past the last operator reads as the last. No `TryFrom`, since no word is refused, and no `From`: beside `of`, which is public, it would be a second name.
     #[tactic(auto, using(crate::proofs::Tables::get_or_past), unfolding(crate::specs::Ops::binary_op))]
     pub fn of(word: u32) -> BinaryOp
         ensures { result ≡ binary_op word }
@@ -57,7 +57,7 @@ impl BinaryOp {
 }
 
 impl UnaryOp {
-    // The operator of a word, likewise, and likewise no `TryFrom`.
+    // The operator of a word, likewise, and likewise no impl.
     #[tactic(auto, using(crate::proofs::Tables::get_or_past), unfolding(crate::specs::Ops::unary_op))]
     pub fn of(word: u32) -> UnaryOp
         ensures { result ≡ unary_op word }
