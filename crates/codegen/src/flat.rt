@@ -264,7 +264,7 @@ impl NodeRef<'_> {
             let registers = s.registers;
             let taken = registers.take();
             let set = taken.set;
-            // NONE where no register is free. As an Option it was slower: the flat nodes then took a few per cent more time.
+            // NONE where no register is free: a word, for the reason at `number_at`.
             let register = number_at(taken.register);
             let f = self.lower_flat(buffers, s.counts, asked, register);
             // The register was used if it is the answer, so no flag is needed.
@@ -504,7 +504,7 @@ impl NodeRef<'_> {
     }
 }
 
-// The node whose value an entry gets: its value, or the name that is its key.
+// The node whose value an entry gets: its value, or the name that is its key. `flat_entry` says why its test for a key alone is not here.
 fn value_or_key(key: u32, value: u32) -> u32
     ensures { result ≡ cond (eqb value absent) key value }
 {

@@ -115,8 +115,7 @@ struct Fields {
     c: u32,
 }
 
-// By reference: by value, bushy trees and maps took 2 to 4 per cent more time, and bushy trees of 4,096 nodes 1.00 of kaori's time for 0.95 (21.1 to 22.0 ns a node
-// for 20.8). The compiler joins the matches on the kind: for each node, calls and maps too, it jumps once by the kind, and then compares what that kind asks.
+// By reference: by value, bushy trees took 2 to 6 per cent more time (of 4,096 nodes, 21.1 to 22.0 ns a node for 20.8, which is up to kaori's time), maps 1 to 2. The compiler joins the matches on the kind: for each node, calls and maps too, it jumps once by the kind, and then compares what that kind asks.
 impl Fields {
     // 4: whether boolean and operator words are in their ranges, unused words 0.
     #[tactic(auto, unfolding(lowering::specs::Questions::question4))]

@@ -172,8 +172,8 @@ pub fn fused_sources(
     }
 }
 
-// The field of a source: its register, or the place of its constant, which is pooled. It is the answer. A source is a word here: with an enum that has the constant
-// in it, and one function for the end of every entry, maps took a sixth more time.
+// The field of a source: its register, or the place of its constant, which is pooled. It is the answer. A source is a word here, as the walk answers it: an enum
+// would be made of it for each of the two fields, and matched here.
 pub fn field_of(
     constants: &mut [u8],
     counts: Counts,
