@@ -32,11 +32,13 @@ use steps::answer::{Stepped, answered, is_refusal, refused, reg_of, value_of};
 use steps::step::emit;
 use words::WORD_BYTES;
 
-// The arguments patched, and then the answer.
+// The arguments patched, and then the answer. The marks are lent to be written, and stay: the borrow checker has no rule yet for a place behind a reference that is lent for reading
+// alone.
 fn patch_and_answer(code: &mut [u8], marks: &mut [u8], state: State, place: u32) -> Stepped<State>
     ensures step { (t : Tree) (p : List ℕ) → settled (bind (patch_arguments (made (words code.old) p (words marks.old) state)) (λ x. ret place))
         ≡ seen t place_at (made (words code.new) p (words marks.new) result.after) result.answer }
     ensures tail { tail code.new ≡ tail code.old }
+    ensures marks { marks.new ≡ marks.old }
 {
     match patch_arguments(code, marks, state.marks, state.registers.frame_size) {
         Ok(()) => answered(state, place),

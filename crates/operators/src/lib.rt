@@ -13,15 +13,15 @@ ghost use Rattle.lowering.specs.Operators.{binary_rr, binary_rk, binary_kr, unar
 ghost use Rattle.operators.specs.Opcodes.{swaps, swaps_kr, jump_swaps, first_of, second_of, is_comparison};
 
 use runtime::opcode::Opcode;
-use syntax::ops::{BinaryOp, UnaryOp};
+use syntax::ops::{AsBinaryOp, AsUnaryOp, BinaryOp, UnaryOp};
 
 // Greater swaps the operands.
 #[tactic(auto, unfolding(runtime::specs::Instruction::words_of, lowering::specs::Operators::binary_rr, crate::specs::Opcodes::swaps))]
-pub fn binary_rr(operator: BinaryOp) -> Opcode
-    ensures { (d a b : ℕ) → words_of (binary_rr operator d a b)
-        ≡ opcode_number result ∷ d ∷ first_of (swaps operator) a b ∷ second_of (swaps operator) a b ∷ [] }
+pub fn binary_rr<O: AsBinaryOp>(operator: O) -> Opcode
+    ensures { (d a b : ℕ) → words_of (binary_rr (O.as_binary_op operator) d a b)
+        ≡ opcode_number result ∷ d ∷ first_of (swaps (O.as_binary_op operator)) a b ∷ second_of (swaps (O.as_binary_op operator)) a b ∷ [] }
 {
-    match operator {
+    match operator.as_binary_op() {
         BinaryOp::Add => Opcode::Add,
         BinaryOp::Subtract => Opcode::Subtract,
         BinaryOp::Multiply => Opcode::Multiply,
@@ -36,11 +36,11 @@ pub fn binary_rr(operator: BinaryOp) -> Opcode
 
 // Greater swaps the operands: the constant comes first.
 #[tactic(auto, unfolding(runtime::specs::Instruction::words_of, lowering::specs::Operators::binary_rk, crate::specs::Opcodes::swaps))]
-pub fn binary_rk(operator: BinaryOp) -> Opcode
-    ensures { (d a k : ℕ) → words_of (binary_rk operator d a k)
-        ≡ opcode_number result ∷ d ∷ first_of (swaps operator) a k ∷ second_of (swaps operator) a k ∷ [] }
+pub fn binary_rk<O: AsBinaryOp>(operator: O) -> Opcode
+    ensures { (d a k : ℕ) → words_of (binary_rk (O.as_binary_op operator) d a k)
+        ≡ opcode_number result ∷ d ∷ first_of (swaps (O.as_binary_op operator)) a k ∷ second_of (swaps (O.as_binary_op operator)) a k ∷ [] }
 {
-    match operator {
+    match operator.as_binary_op() {
         BinaryOp::Add => Opcode::AddK,
         BinaryOp::Subtract => Opcode::SubtractRK,
         BinaryOp::Multiply => Opcode::MultiplyK,
@@ -57,11 +57,11 @@ pub fn binary_rk(operator: BinaryOp) -> Opcode
 
 // A constant on the left of add, multiply, equal, not-equal goes right.
 #[tactic(auto, unfolding(runtime::specs::Instruction::words_of, lowering::specs::Operators::binary_kr, crate::specs::Opcodes::swaps_kr))]
-pub fn binary_kr(operator: BinaryOp) -> Opcode
-    ensures { (d k b : ℕ) → words_of (binary_kr operator d k b)
-        ≡ opcode_number result ∷ d ∷ first_of (swaps_kr operator) k b ∷ second_of (swaps_kr operator) k b ∷ [] }
+pub fn binary_kr<O: AsBinaryOp>(operator: O) -> Opcode
+    ensures { (d k b : ℕ) → words_of (binary_kr (O.as_binary_op operator) d k b)
+        ≡ opcode_number result ∷ d ∷ first_of (swaps_kr (O.as_binary_op operator)) k b ∷ second_of (swaps_kr (O.as_binary_op operator)) k b ∷ [] }
 {
-    match operator {
+    match operator.as_binary_op() {
         BinaryOp::Add => Opcode::AddK,
         BinaryOp::Multiply => Opcode::MultiplyK,
         BinaryOp::Equal => Opcode::EqualK,
@@ -78,19 +78,22 @@ pub fn binary_kr(operator: BinaryOp) -> Opcode
 
 // Whether the operands of binary_rr and binary_rk are swapped.
 #[tactic(auto, unfolding(crate::specs::Opcodes::swaps))]
-pub fn swaps(operator: BinaryOp) -> bool
-    ensures { result ≡ swaps operator }
+pub fn swaps<O: AsBinaryOp>(operator: O) -> bool
+    ensures { result ≡ swaps (O.as_binary_op operator) }
 {
-    matches!(operator, BinaryOp::Greater | BinaryOp::GreaterEqual)
+    matches!(
+        operator.as_binary_op(),
+        BinaryOp::Greater | BinaryOp::GreaterEqual
+    )
 }
 
 // Whether those of binary_kr are.
 #[tactic(auto, unfolding(crate::specs::Opcodes::swaps_kr))]
-pub fn swaps_kr(operator: BinaryOp) -> bool
-    ensures { result ≡ swaps_kr operator }
+pub fn swaps_kr<O: AsBinaryOp>(operator: O) -> bool
+    ensures { result ≡ swaps_kr (O.as_binary_op operator) }
 {
     matches!(
-        operator,
+        operator.as_binary_op(),
         BinaryOp::Greater
             | BinaryOp::GreaterEqual
             | BinaryOp::Add
@@ -102,10 +105,10 @@ pub fn swaps_kr(operator: BinaryOp) -> bool
 
 // The opcode of a unary operator.
 #[tactic(auto, unfolding(runtime::specs::Instruction::words_of, lowering::specs::Operators::unary))]
-pub fn unary(operator: UnaryOp) -> Opcode
-    ensures { (d a : ℕ) → words_of (unary operator d a) ≡ opcode_number result ∷ d ∷ a ∷ 0 ∷ [] }
+pub fn unary<O: AsUnaryOp>(operator: O) -> Opcode
+    ensures { (d a : ℕ) → words_of (unary (O.as_unary_op operator) d a) ≡ opcode_number result ∷ d ∷ a ∷ 0 ∷ [] }
 {
-    match operator {
+    match operator.as_unary_op() {
         UnaryOp::Negate => Opcode::Negate,
         UnaryOp::Deref => Opcode::Deref,
     }
@@ -113,11 +116,11 @@ pub fn unary(operator: UnaryOp) -> Opcode
 
 // Six of the operators compare.
 #[tactic(auto, unfolding(crate::specs::Opcodes::is_comparison))]
-pub fn is_comparison(operator: BinaryOp) -> bool
-    ensures { result ≡ is_comparison operator }
+pub fn is_comparison<O: AsBinaryOp>(operator: O) -> bool
+    ensures { result ≡ is_comparison (O.as_binary_op operator) }
 {
     matches!(
-        operator,
+        operator.as_binary_op(),
         BinaryOp::Equal
             | BinaryOp::NotEqual
             | BinaryOp::Less
@@ -129,19 +132,19 @@ pub fn is_comparison(operator: BinaryOp) -> bool
 
 // The jump that is taken where the comparison gives `sense`. Nothing is said of an operator that does not compare, here and in the next three.
 #[tactic(auto, unfolding(runtime::specs::Instruction::words_of, lowering::specs::Operators::comparison, lowering::specs::Operators::jump_rr, crate::specs::Opcodes::jump_swaps))]
-pub fn jump_rr(sense: bool, operator: BinaryOp) -> Opcode
-    ensures { (c : Comparison) → comparison operator ≡ Some c → (a b : ℕ)
+pub fn jump_rr<O: AsBinaryOp>(sense: bool, operator: O) -> Opcode
+    ensures { (c : Comparison) → comparison (O.as_binary_op operator) ≡ Some c → (a b : ℕ)
         → words_of (jump_rr sense c a b) ≡ opcode_number result ∷ first_of (jump_swaps sense c) a b ∷ second_of (jump_swaps sense c) a b ∷ 0 ∷ [] }
 {
     if sense {
-        match operator {
+        match operator.as_binary_op() {
             BinaryOp::Equal => Opcode::JumpIfEqual,
             BinaryOp::NotEqual => Opcode::JumpIfNotEqual,
             BinaryOp::Less | BinaryOp::Greater => Opcode::JumpIfLess,
             _ => Opcode::JumpIfLessEqual,
         }
     } else {
-        match operator {
+        match operator.as_binary_op() {
             BinaryOp::Equal => Opcode::JumpIfNotEqual,
             BinaryOp::NotEqual => Opcode::JumpIfEqual,
             BinaryOp::Less | BinaryOp::Greater => Opcode::JumpIfLessEqual,
@@ -152,11 +155,11 @@ pub fn jump_rr(sense: bool, operator: BinaryOp) -> Opcode
 
 // The same of a register and a constant, in this order.
 #[tactic(auto, unfolding(runtime::specs::Instruction::words_of, lowering::specs::Operators::comparison, lowering::specs::Operators::jump_rk))]
-pub fn jump_rk(sense: bool, operator: BinaryOp) -> Opcode
-    ensures { (c : Comparison) → comparison operator ≡ Some c → (a k : ℕ) → words_of (jump_rk sense c a k) ≡ opcode_number result ∷ a ∷ k ∷ 0 ∷ [] }
+pub fn jump_rk<O: AsBinaryOp>(sense: bool, operator: O) -> Opcode
+    ensures { (c : Comparison) → comparison (O.as_binary_op operator) ≡ Some c → (a k : ℕ) → words_of (jump_rk sense c a k) ≡ opcode_number result ∷ a ∷ k ∷ 0 ∷ [] }
 {
     if sense {
-        match operator {
+        match operator.as_binary_op() {
             BinaryOp::Equal => Opcode::JumpIfEqualK,
             BinaryOp::NotEqual => Opcode::JumpIfNotEqualK,
             BinaryOp::Less => Opcode::JumpIfLessRK,
@@ -165,7 +168,7 @@ pub fn jump_rk(sense: bool, operator: BinaryOp) -> Opcode
             _ => Opcode::JumpIfLessEqualRK,
         }
     } else {
-        match operator {
+        match operator.as_binary_op() {
             BinaryOp::Equal => Opcode::JumpIfNotEqualK,
             BinaryOp::NotEqual => Opcode::JumpIfEqualK,
             BinaryOp::Less => Opcode::JumpIfLessEqualKR,
@@ -178,11 +181,11 @@ pub fn jump_rk(sense: bool, operator: BinaryOp) -> Opcode
 
 // The same of a constant and a register; their fields, too, are the register and then the constant.
 #[tactic(auto, unfolding(runtime::specs::Instruction::words_of, lowering::specs::Operators::comparison, lowering::specs::Operators::jump_kr))]
-pub fn jump_kr(sense: bool, operator: BinaryOp) -> Opcode
-    ensures { (c : Comparison) → comparison operator ≡ Some c → (k b : ℕ) → words_of (jump_kr sense c k b) ≡ opcode_number result ∷ b ∷ k ∷ 0 ∷ [] }
+pub fn jump_kr<O: AsBinaryOp>(sense: bool, operator: O) -> Opcode
+    ensures { (c : Comparison) → comparison (O.as_binary_op operator) ≡ Some c → (k b : ℕ) → words_of (jump_kr sense c k b) ≡ opcode_number result ∷ b ∷ k ∷ 0 ∷ [] }
 {
     if sense {
-        match operator {
+        match operator.as_binary_op() {
             BinaryOp::Equal => Opcode::JumpIfEqualK,
             BinaryOp::NotEqual => Opcode::JumpIfNotEqualK,
             BinaryOp::Less => Opcode::JumpIfLessKR,
@@ -191,7 +194,7 @@ pub fn jump_kr(sense: bool, operator: BinaryOp) -> Opcode
             _ => Opcode::JumpIfLessEqualKR,
         }
     } else {
-        match operator {
+        match operator.as_binary_op() {
             BinaryOp::Equal => Opcode::JumpIfNotEqualK,
             BinaryOp::NotEqual => Opcode::JumpIfEqualK,
             BinaryOp::Less => Opcode::JumpIfLessEqualRK,
@@ -204,10 +207,10 @@ pub fn jump_kr(sense: bool, operator: BinaryOp) -> Opcode
 
 // Whether the operands of jump_rr are swapped.
 #[tactic(auto, unfolding(lowering::specs::Operators::comparison, crate::specs::Opcodes::jump_swaps))]
-pub fn jump_swaps(sense: bool, operator: BinaryOp) -> bool
-    ensures { (c : Comparison) → comparison operator ≡ Some c → result ≡ jump_swaps sense c }
+pub fn jump_swaps<O: AsBinaryOp>(sense: bool, operator: O) -> bool
+    ensures { (c : Comparison) → comparison (O.as_binary_op operator) ≡ Some c → result ≡ jump_swaps sense c }
 {
-    match operator {
+    match operator.as_binary_op() {
         BinaryOp::Equal | BinaryOp::NotEqual => false,
         BinaryOp::Greater | BinaryOp::GreaterEqual => sense,
         _ => !sense,

@@ -22,7 +22,7 @@ const SPAN_START: u32 = 4;
 const SPAN_END: u32 = 5;
 
 // The eight numbers that come back.
-#[derive(Drop)]
+#[derive(Clone, Copy)]
 pub struct Result {
     pub number: u32,
     pub place: u32,

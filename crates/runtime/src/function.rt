@@ -3,10 +3,9 @@ ghost use Rattle.std.specs.Prelude.{◌≡◌, [], ◌∷◌};
 ghost use Rattle.diagnostics.specs.declared.Refusal.{Refusal};
 ghost use Rattle.words.specs.Words.{words, tail};
 ghost use Rattle.words.specs.Records.{append, buffer};
-ghost use Rattle.runtime.specs.Opcode.{opcode_number};
 ghost use Rattle.runtime.specs.Function.{max_instructions, store_constant};
 
-use crate::opcode::Opcode;
+use crate::opcode::AsWord;
 use crate::operand::Operand;
 use crate::value::constant_words;
 use diagnostics::Refusal;
@@ -15,20 +14,20 @@ use words::{Appended, MAX_COUNT, append, position};
 // The most instructions that are made.
 pub const MAX_INSTRUCTIONS: u32 = 1048576;
 
-// Puts the instruction with these words after the first `count` ones.
-pub fn emit_instruction(
+// Puts the instruction with these words after the first `count` ones. The first word is an opcode's, or any word.
+pub fn emit_instruction<O: AsWord>(
     code: &mut [u8],
     count: u32,
-    opcode: Opcode,
+    opcode: O,
     a: u32,
     b: u32,
     c: u32,
 ) -> Appended
     ensures words { buffer (words code.new) result
-        ≡ append (words code.old) count max_instructions (opcode_number opcode ∷ a ∷ b ∷ c ∷ []) Refusal.Code }
+        ≡ append (words code.old) count max_instructions (O.as_word opcode ∷ a ∷ b ∷ c ∷ []) Refusal.Code }
     ensures tail { tail code.new ≡ tail code.old }
 {
-    let words = [opcode.number(), a, b, c];
+    let words = [opcode.as_word(), a, b, c];
     append(code, count, MAX_INSTRUCTIONS, &words, Refusal::Code)
 }
 

@@ -25,7 +25,7 @@ use operators::{
 };
 use runtime::opcode::Opcode;
 use runtime::operand::Operand;
-use syntax::ops::BinaryOp;
+use syntax::ops::AsBinaryOp;
 
 // The two sources of an operator, by where they are: in registers (R), or one of them a constant (K) that is not pooled yet.
 #[derive(Clone, Copy)]
@@ -71,22 +71,23 @@ fn binary_end(
 
 // The instruction of an operator on its sources, with its result in d. What the sources held is given back by the walk.
 #[tactic(auto, using(crate::proofs::Words::refusal_start_lem, crate::proofs::Words::refusal_from))]
-pub fn binary_sources(
+pub fn binary_sources<O: AsBinaryOp>(
     code: &mut [u8],
     constants: &mut [u8],
     counts: Counts,
-    operator: BinaryOp,
+    operator: O,
     sources: Sources,
     d: u32,
 ) -> Stepped<Counts>
     ensures step { (t : Tree) (E : ℕ → Option Register → Walk Operand) (left right : ℕ) (rs : RegisterSet) (n : ℕ) (m : List ℕ) →
-        settled (binary_sources (λ x. ret tt) t E operator left right (register_at d) (first_source sources) (second_source sources)
+        settled (binary_sources (λ x. ret tt) t E (O.as_binary_op operator) left right (register_at d) (first_source sources) (second_source sources)
         (made (words code.old) (words constants.old) m (state_of rs counts n)))
         ≡ seen t (λ w. Operand.Register (register_at w)) (made (words code.new) (words constants.new) m (state_of rs result.after n)) result.answer }
     ensures code { tail code.new ≡ tail code.old }
     ensures constants { tail constants.new ≡ tail constants.old }
     ensures word { DestOrRefusal d result.answer }
 {
+    let operator = operator.as_binary_op();
     match sources {
         Sources::RR(src1, src2) => {
             let opcode = binary_rr(operator);
@@ -119,16 +120,16 @@ pub fn binary_sources(
 // The jump of a comparison on its sources, taken where it gives `sense`. Its place is the answer. It stands beside `binary_sources`, and each arm by itself: the opcode is another in each arm
 // and each function, and the order of the fields in most, so what would be joined is the constant pooled, which is a call.
 #[tactic(auto, using(crate::proofs::Words::refusal_start_lem, crate::proofs::Words::refusal_from))]
-pub fn fused_sources(
+pub fn fused_sources<O: AsBinaryOp>(
     code: &mut [u8],
     constants: &mut [u8],
     counts: Counts,
     sense: bool,
-    operator: BinaryOp,
+    operator: O,
     sources: Sources,
 ) -> Stepped<Counts>
     ensures step { (t : Tree) (E : ℕ → Option Register → Walk Operand) (own : Option Register → Walk Operand) (c : Comparison) (rs : RegisterSet) (n : ℕ) (m : List ℕ) →
-        comparison operator ≡ Some c →
+        comparison (O.as_binary_op operator) ≡ Some c →
         settled (fused_sources t E sense own c (first_source sources) (second_source sources)
         (made (words code.old) (words constants.old) m (state_of rs counts n)))
         ≡ seen t place_at (made (words code.new) (words constants.new) m (state_of rs result.after n)) result.answer }
@@ -136,6 +137,7 @@ pub fn fused_sources(
     ensures constants { tail constants.new ≡ tail constants.old }
     ensures word { WordOrRefusal result.answer }
 {
+    let operator = operator.as_binary_op();
     match sources {
         Sources::RR(src1, src2) => {
             let opcode = jump_rr(sense, operator);

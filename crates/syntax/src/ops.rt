@@ -34,6 +34,58 @@ pub enum Comparison {
     LessEqual,
 }
 
+// A binary operator, or a word that is read as one: what takes an operator takes either, and any word.
+pub trait AsBinaryOp {
+    ghost use Rattle.syntax.specs.declared.ops.BinaryOp.{BinaryOp};
+
+    ghost as_binary_op: { Self → BinaryOp };
+
+    fn as_binary_op(self) -> BinaryOp
+        ensures { result ≡ as_binary_op self };
+}
+
+impl AsBinaryOp for BinaryOp {
+    ghost as_binary_op = { λ operator. operator };
+
+    fn as_binary_op(self) -> Self {
+        self
+    }
+}
+
+impl AsBinaryOp for u32 {
+    ghost as_binary_op = { λ word. binary_op word };
+
+    fn as_binary_op(self) -> BinaryOp {
+        BinaryOp::of(self)
+    }
+}
+
+// A unary operator, or a word, likewise.
+pub trait AsUnaryOp {
+    ghost use Rattle.syntax.specs.declared.ops.UnaryOp.{UnaryOp};
+
+    ghost as_unary_op: { Self → UnaryOp };
+
+    fn as_unary_op(self) -> UnaryOp
+        ensures { result ≡ as_unary_op self };
+}
+
+impl AsUnaryOp for UnaryOp {
+    ghost as_unary_op = { λ operator. operator };
+
+    fn as_unary_op(self) -> Self {
+        self
+    }
+}
+
+impl AsUnaryOp for u32 {
+    ghost as_unary_op = { λ word. unary_op word };
+
+    fn as_unary_op(self) -> UnaryOp {
+        UnaryOp::of(self)
+    }
+}
+
 impl BinaryOp {
     // The operator of a word; a word past the last operator reads as the last. No `TryFrom`, since no word is refused, and no `From`: beside `of`, which is public, it would be a second name.
     #[tactic(auto, using(crate::proofs::Tables::get_or_past), unfolding(crate::specs::Ops::binary_op))]

@@ -6,11 +6,17 @@ ghost use Rattle.std.specs.Str.{bytes_eq};
 ghost use Rattle.listing.specs.Output.{lowerlist};
 ghost use Rattle.vectors.specs.Answers.{line_end, comments_end, number, case_at, outcome};
 
+use input::read_full;
 use listing::column::{COLUMN_BYTES, read_column};
 use listing::text::LINE_FEED;
 use lower_text::{list, listing_buffer};
+use std::alloc::Alloc;
+use std::fs::Files;
 use std::io::Write;
 use std::{fs, io};
+
+// More bytes than the record has. A record that fills the buffer is cut, and its last cases do not agree.
+const RECORD_BYTES: usize = 1572864;
 
 // The columns of a case's first line that say how long its text and its answer are.
 const TEXT_COLUMN: usize = 2;
@@ -132,8 +138,16 @@ fn report<R: Print>(rt: &R, answers: &[u8], r: Outcome) -> io::Result<()>
     Ok(())
 }
 
+// The record: what `answers.txt` has, or as much of it as the buffer holds.
+fn record<R: Files + Alloc>(rt: &R) -> io::Result<Vec<u8, R::A>> {
+    let mut bytes = vec![in rt.alloc(); 0u8; RECORD_BYTES]?;
+    let size = read_full(&mut fs::open(rt, "answers.txt")?, &mut bytes)?;
+    bytes.truncate(size);
+    Ok(bytes)
+}
+
 fn main(rt: HostRuntime) -> io::Result<()> {
-    let answers = fs::read(&rt, "answers.txt")?;
+    let answers = record(&rt)?;
     let r = replay(&answers);
     report(&rt, &answers, r)
 }
