@@ -81,10 +81,8 @@ pub fn binary_kr<O: AsBinaryOp>(operator: O) -> Opcode
 pub fn swaps<O: AsBinaryOp>(operator: O) -> bool
     ensures { result ≡ swaps (O.as_binary_op operator) }
 {
-    matches!(
-        operator.as_binary_op(),
-        BinaryOp::Greater | BinaryOp::GreaterEqual
-    )
+    let operator = operator.as_binary_op();
+    matches!(operator, BinaryOp::Greater | BinaryOp::GreaterEqual)
 }
 
 // Whether those of binary_kr are.
