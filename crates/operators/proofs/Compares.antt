@@ -1,6 +1,6 @@
 -- `is_comparison` is true of the operators that have a comparison, and of no other. Assumes nothing.
 use Rattle.std.specs.Prelude.{Option, Some, None}
-use mathlib.Core.Path.{◌≡◌, refl, sym, ◌∙◌}
+use mathlib.Core.Path.{◌≡◌, refl, sym, ap, ◌∙◌}
 use mathlib.Core.Bool.{Bool, true, false, true≢false, false≢true}
 use Rattle.syntax.specs.declared.ops.BinaryOp.{BinaryOp}
 use Rattle.syntax.specs.declared.ops.Comparison.{Comparison}
@@ -38,3 +38,6 @@ compares_some op e = some_of (comparison op) (sym (compares_is_some op) ∙ e)
 
 pub compares_none : (op : BinaryOp) → is_comparison op ≡ false → comparison op ≡ None
 compares_none op e = none_of (comparison op) (sym (compares_is_some op) ∙ e)
+
+pub some_compares : (op : BinaryOp) {c : Comparison} → comparison op ≡ Some c → is_comparison op ≡ true
+some_compares op e = compares_is_some op ∙ ap is_some e

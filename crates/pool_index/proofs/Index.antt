@@ -1,25 +1,26 @@
 -- What the pool's index does: a constant that is put into it is found, any other is found as before, and so the pool, as its searches see it, is as if it had
 -- no index. Assumes nothing.
 use Rattle.std.specs.Prelude.{Ok, Err}
-use Prim.Native.Nat.{ℕ, zero, suc, ◌+◌, ◌-◌, ◌≤◌, ◌<◌}
+use Prim.Native.Nat.{ℕ, zero, suc, ◌+◌, ◌*◌, ◌-◌, ◌≤◌, ◌<◌}
 use native.Mathlib.Omega.{arith}
 use native.Mathlib.Decide.{ℕ_discrete, dec_lt}
 use native.Mathlib.Nat.{mod-lt}
 use native.Mathlib.Numerals.{add-one}
 use mathlib.Core.Path.{◌≡◌, refl, sym, ◌∙◌, ap}
 use mathlib.Core.Logic.{◌≢◌, ◌⊎◌, inl, inr}
-use mathlib.Core.Bool.{Bool, true, false, cond}
-use mathlib.Core.List.{List}
-use lib.Dec.{eqb}
+use mathlib.Core.Bool.{Bool, true, false, cond, ◌&&◌}
+use mathlib.Core.List.{List, [], ◌∷◌}
+use lib.Dec.{leb, ltb, eqb}
 use lib.ListN.{length, get_or, set, length-set}
 use lib.Seq.{get_or-set_same, get_or-set_other}
-use borrow.Author.Tests.{lt-ltb, le-ltb, le-leb, lt-leb, eq-eqb, ne_eqb}
+use borrow.Author.Tests.{ltb-true, leb-true, lt-ltb, le-ltb, le-leb, lt-leb, eq-eqb, ne_eqb}
+use Rattle.std.proofs.lemmas.Bool.{and_parts}
 use Rattle.diagnostics.specs.declared.Refusal.{Refusal}
 use Rattle.words.specs.Words.{words}
 use Rattle.words.specs.Records.{max_count, capacity, record_at, put_record, is_at, position_from, position, buffer, append}
 use Rattle.pool_index.specs.Hidden.{hide}
 use Rattle.words.proofs.Search.{first}
-use Rattle.words.proofs.Records.{record_same, record_other, append_room, append_full, append_limit}
+use Rattle.words.proofs.Records.{record_same, record_other, record_word, append_room, append_full, append_limit}
 use Rattle.pool_index.proofs.Records.{appended_found, answered_at, answered_full}
 use Rattle.pool_index.proofs.Hiding.{none_hidden, hide_capacity, found_position, none_position, findable_put}
 use Rattle.pool_index.proofs.Positions.{put_at, put_here, put_not_here, put_found, put_none, put_new}
@@ -34,6 +35,11 @@ use Rattle.runtime.proofs.Pool.{store_pooled, store_new}
 pub slot_below : (r : List ℕ) → slot_of r < slots
 unfolding slot_of
 slot_below r = mod-lt _ (omega arith)
+
+-- it is known by the last two words
+pub slot_words : (r : List ℕ) → slot_of (0 ∷ get_or r 1 0 ∷ get_or r 2 0 ∷ []) ≡ slot_of r
+unfolding slot_of
+slot_words r = refl
 
 -- ---- a chain
 
@@ -133,7 +139,73 @@ module _ (ws index r : List ℕ) where
           rw (lt-ltb 0 next a, le-leb next bound (omega (arith, k)))
           (there a (omega (arith, k)) (is_at ws r (next - 1)) refl (eqb (slot_of (record_at constant_width ws (next - 1))) (slot_of r)) ih)
 
+-- a chain, as a program that walks it tests it
+pub in_chain : (next bound : ℕ) → (ltb 0 next && leb next bound) ≡ true → (0 < next) × (next ≤ bound)
+in_chain next bound test = let both = and_parts (ltb 0 next) (leb next bound) test in (ltb-true 0 next both.0, leb-true next bound both.1)
+
+pub in_links : (next bound : ℕ) → (ltb 0 next && leb next bound) ≡ true → bound ≤ links → next - 1 < links
+in_links next bound test few = omega (arith, (in_chain next bound test).0, (in_chain next bound test).1, few)
+
+module _ (ws index r : List ℕ) (bound next : ℕ) where
+  abbrev rest : ℕ
+  rest = chained ws index r bound bound next
+
+  pub walk_end : (ltb 0 next && leb next bound) ≡ false → full ≡ rest
+  unfolding chained
+  walk_end test = go bound
+    where
+      go : (fuel : ℕ) → full ≡ chained ws index r fuel bound next
+      go zero = refl
+      go (suc fuel) = rw test
+
+  module _ (test : (ltb 0 next && leb next bound) ≡ true) where
+    some : 0 < next
+    some = (in_chain next bound test).0
+
+    within : next ≤ bound
+    within = (in_chain next bound test).1
+
+    stepped : chained ws index r (suc (bound - 1)) bound next ≡ rest
+    stepped =
+        let e : suc (bound - 1) ≡ bound = omega (arith, some, within) in
+        ap (λ fuel. chained ws index r fuel bound next) e
+
+    pub walk_here : is_at ws r (next - 1) ≡ true → next - 1 ≡ rest
+    walk_here e = sym (chain_here ws index r (bound - 1) bound next some within e) ∙ stepped
+
+    -- the slot of the constant here, by its words
+    module _ (e : is_at ws r (next - 1) ≡ false) {low high slot : ℕ} (l : low ≡ get_or ws (constant_width * (next - 1) + 1) 0) (h : high ≡ get_or ws (constant_width * (next - 1) + 2) 0)
+        (s : slot ≡ slot_of (0 ∷ low ∷ high ∷ [])) where
+      slot_here : slot ≡ slot_of (record_at constant_width ws (next - 1))
+      slot_here =
+          s
+          ∙ rw (l, h, ← record_word constant_width ws (next - 1) 1 (omega arith), ← record_word constant_width ws (next - 1) 2 (omega arith))
+          (slot_words (record_at constant_width ws (next - 1)))
+
+      pub walk_on : slot ≡ slot_of r → chained ws index r (next - 1) (next - 1) (get_or index (slots + (next - 1)) 0) ≡ rest
+      walk_on o =
+          sym (chain_steps ws index r (bound - 1) (next - 1) (get_or index (slots + (next - 1)) 0) (omega (arith, within)))
+          ∙ sym (chain_on ws index r (bound - 1) bound next some within e (sym slot_here ∙ o))
+          ∙ stepped
+
+      pub walk_off : slot ≢ slot_of r → full ≡ rest
+      walk_off o = sym (chain_off ws index r (bound - 1) bound next some within e (λ x. o (slot_here ∙ x))) ∙ stepped
+
 -- ---- a search
+
+pub linked_within : (n : ℕ) → linked n ≤ links
+linked_within n = go (dec_lt n links)
+  where
+    go : Dec (n < links) → linked n ≤ links
+    go (yes l) = rw (lt-ltb n links l) (omega (arith, l))
+    go (no l) = rw (le-ltb n links (omega (arith, l))) (omega arith)
+
+linked_least : (n count : ℕ) → n ≤ count → n ≤ links → n ≤ linked count
+linked_least n count h l = go (dec_lt count links)
+  where
+    go : Dec (count < links) → n ≤ linked count
+    go (yes c) = rw (lt-ltb count links c) h
+    go (no c) = rw (le-ltb count links (omega (arith, c))) l
 
 linked_low : (n : ℕ) → n ≤ links → linked n ≡ n
 linked_low n h = go (dec_lt n links)
@@ -149,6 +221,13 @@ no_search ws r = refl
 linked_high : (n : ℕ) → links ≤ n → linked n ≡ links
 linked_high n h = rw (le-ltb n links h)
 
+-- the first place of a chain, as a program that looks there tests it
+pub in_head : (next count : ℕ) → (ltb 0 next && leb next count && leb next links) ≡ true → (0 < next) × (next ≤ count) × (next ≤ links)
+in_head next count test =
+    let outer = and_parts (ltb 0 next && leb next count) (leb next links) test in
+    let inner = and_parts (ltb 0 next) (leb next count) outer.0 in
+    (ltb-true 0 next inner.0, leb-true next count inner.1, leb-true next links outer.1)
+
 module _ (ws index r : List ℕ) (count : ℕ) where
   abbrev near : ℕ
   near = chained ws index r (linked count) (linked count) (get_or index (slot_of r) 0)
@@ -163,6 +242,16 @@ module _ (ws index r : List ℕ) (count : ℕ) where
   pub find_past : count ≤ near → find ws index count r ≡ past
   unfolding find
   find_past h = rw (le-ltb near count h)
+
+  -- the first of a chain is found at once
+  module _ (next : ℕ) (test : (ltb 0 next && leb next count && leb next links) ≡ true) where
+    pub find_head : next ≡ get_or index (slot_of r) 0 → is_at ws r (next - 1) ≡ true → next - 1 ≡ find ws index count r
+    find_head is e =
+        let some : 0 < next = (in_head next count test).0 in
+        let few : next ≤ count = (in_head next count test).1 in
+        let within : next ≤ linked count = linked_least next count few (in_head next count test).2 in
+        let here : next - 1 ≡ near = walk_here ws index r (linked count) next (rw (lt-ltb 0 next some, le-leb next (linked count) within)) e ∙ rw is in
+        here ∙ sym (find_near (omega (arith, here, some, few)))
 
   -- what is found is there
   pub find_is : count ≤ full → find ws index count r < count → is_at ws r (find ws index count r) ≡ true

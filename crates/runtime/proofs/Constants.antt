@@ -8,7 +8,7 @@ use native.Mathlib.Omega.{arith}
 use native.Mathlib.Nat.{div-add-mod}
 use lib.Dec.{T, eqb, ltb}
 use lib.ListN.{length, get_or}
-use lib.Ieee.{Float, binary64, fits, is_nan, nan_bits}
+use lib.Ieee.{Float, nan, inf, fin, binary64, fits, is_nan, nan_bits}
 use lib.Ieee.Bits.{is_false, of_bits-to_bits, to_bits-lt, to_bits-of_bits, nan_bits_is, nan_bits_above}
 use borrow.Author.Tests.{ltb-false, ne_eqb}
 use Rattle.runtime.specs.declared.operand.Operand.{Operand}
@@ -25,7 +25,14 @@ constant_width_lem (Operand.Register r) = refl
 
 -- ---- numbers
 
-not_nan : (b : Bool) → b ≡ false → T (not b)
+-- what is a NaN is `nan`
+pub is_nan_lem : (x : Float) → is_nan x ≡ true → x ≡ nan
+unfolding is_nan
+is_nan_lem nan h = refl
+is_nan_lem (inf s) h = absurd (false≢true h)
+is_nan_lem (fin s m e) h = absurd (false≢true h)
+
+pub not_nan : (b : Bool) → b ≡ false → T (not b)
 not_nan false h = tt
 not_nan true h = absurd (false≢true (sym h))
 

@@ -195,6 +195,10 @@ module _ (i : Instruction) (o : ℕ) where
   pub decode_offset : offset_word (kind_of i) ≢ 0 → decode (set (words_of i) (offset_word (kind_of i)) o) ≡ Some (with_offset o i)
   decode_offset h = rw (← words_of_offset h) (decode_words_of (with_offset o i))
 
+  -- what is no jump has no offset to change
+  pub offset_none : offset_word (kind_of i) ≡ 0 → with_offset o i ≡ i
+  offset_none h = words_of_injective _ _ (rw h at ((encoded i).offset o))
+
 -- ---- destinations
 
 module _ (i : Instruction) (d : ℕ) where
@@ -204,3 +208,7 @@ module _ (i : Instruction) (d : ℕ) where
 
   pub decode_destination : has_destination (kind_of i) ≡ true → decode (set (words_of i) 1 d) ≡ Some (with_destination d i)
   decode_destination h = rw (← words_of_destination h) (decode_words_of (with_destination d i))
+
+  -- another kind has none to change
+  pub destination_none : has_destination (kind_of i) ≡ false → with_destination d i ≡ i
+  destination_none h = words_of_injective _ _ (rw h at ((encoded i).destination d))

@@ -40,6 +40,15 @@ unfolding same_words
 equal_same [] = refl
 equal_same (x ∷ xs) = rw (eq-eqb x x refl) (equal_same xs)
 
+-- whoever says true of equal lists, and of no others, says what `same_words` does
+pub same_words_lem : (s t : List ℕ) (r : Bool) → (r ≡ true → s ≡ t) → (s ≡ t → r ≡ true) → r ≡ same_words s t
+same_words_lem s t true only all = sym (rw (only refl) (equal_same t))
+same_words_lem s t false only all = go (same_words s t) refl
+  where
+    go : (b : Bool) → same_words s t ≡ b → false ≡ same_words s t
+    go true e = absurd (false≢true (all (same_equal s t e)))
+    go false e = sym e
+
 -- the words from `at` on against r, of which k are passed
 module _ (ws : List ℕ) (at : ℕ) (r : List ℕ) where
   unfoldable pub rest_same : ℕ → Bool
