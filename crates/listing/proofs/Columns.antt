@@ -11,8 +11,8 @@ use Prim.Native.Nat.{ℕ, zero, suc, ◌+◌, ◌*◌, ◌-◌, ◌/◌, ◌%◌
 use native.Mathlib.Omega.{arith}
 use native.Mathlib.Nat.{add-zero}
 use lib.Dec.{leb}
-use lib.ListN.{length, set, take, drop, length-append, length-drop, take-append-drop}
-use lib.Seq.{sets, length-take-le, set_comm}
+use lib.ListN.{length, get_or, set, take, drop, length-append, length-drop, take-append-drop}
+use lib.Seq.{sets, drop-cons, length-take-le, set_comm}
 use borrow.Author.Tests.{lt-ltb, le-leb, leb-true, ne_eqb}
 use Rattle.listing.specs.declared.column.Column.{Column}
 use Rattle.listing.specs.Column.{column_bytes, space, digit_zero, digit_nine, max_word, is_digit_byte, first, more, step, read_bytes, read_column, column_number, padding, padded, write_column}
@@ -22,12 +22,16 @@ digit_bounds b e =
     let both = and_parts (leb digit_zero b) (leb b digit_nine) e in
     (leb-true digit_zero b both.0, leb-true b digit_nine both.1)
 
--- reading: a text that is too short
+-- reading: a text that is too short, one byte more
 pub read_short : (n : ℕ) (c : Column) (s : List ℕ) → length s < n → read_bytes n c s ≡ Column.Bad
 unfolding read_bytes
 read_short zero c s h = absurd (omega arith)
 read_short (suc n) c [] h = refl
 read_short (suc n) c (b ∷ s) h = read_short n (step c b) s (omega arith)
+
+pub read_more : (n : ℕ) (c : Column) (s : List ℕ) (i : ℕ) → i < length s → read_bytes (suc n) c (drop i s) ≡ read_bytes n (step c (get_or s i 0)) (drop (suc i) s)
+unfolding read_bytes
+read_more n c s i h = rw (drop-cons s i 0 h)
 
 -- the bytes of a column, one after the other
 pub read_steps : (c : Column) (bs s : List ℕ) → read_bytes (length bs) c (bs ++ s) ≡ fold step c bs

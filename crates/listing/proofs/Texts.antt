@@ -1,5 +1,5 @@
 -- The laws of a text's header and of its parts: what is read, by its words and its bytes. Assumes nothing.
-use Rattle.std.specs.Prelude.{Some}
+use Rattle.std.specs.Prelude.{Some, None}
 use Rattle.std.specs.Bool.{then_some}
 use mathlib.Core.Path.{◌≡◌, refl, sym, ap, ◌∙◌}
 use mathlib.Core.List.{List, ◌++◌, append-nil}
@@ -12,7 +12,7 @@ use lib.Dec.{eqb}
 use Rattle.words.specs.Words.{words, tail}
 use Rattle.words.proofs.Words.{bytes_words}
 use Rattle.listing.specs.declared.text.Header.{Header}
-use Rattle.listing.specs.Text.{Read, read_as, read_line, fill, header_width, header_of, within, text_bytes, headed, read_header, filled}
+use Rattle.listing.specs.Text.{Read, read_as, read_line, fill, header_width, header_of, within, text_bytes, headed, read_header, read_nodes, read_list, read_names, checked_head, read_text, filled}
 use Rattle.listing.proofs.Lines.{line_width}
 
 -- a run of stores over all of a list
@@ -24,11 +24,11 @@ sets_all l vs e =
 
 -- the line of a header, read into a buffer for it, and what the header is
 module _ (s zs vs : List ℕ) (b : Bool) (e : read_as vs b ≡ fill zs (header_width * 0) (read_line header_width (drop 0 s))) where
-  header_line : (read_line header_width s).good ≡ b
+  pub header_line : (read_line header_width s).good ≡ b
   unfolding fill
   header_line = sym (ap (λ (r : Read). r.good) e)
 
-  header_words_lem : length zs ≡ header_width → b ≡ true → vs ≡ (read_line header_width s).words
+  pub header_words_lem : length zs ≡ header_width → b ≡ true → vs ≡ (read_line header_width s).words
   unfolding fill
   header_words_lem n g =
       let w : length (read_line header_width s).words ≡ header_width = line_width header_width s (header_line ∙ g) in
@@ -55,3 +55,23 @@ pub part_filled : (reads : Header → List ℕ → Read) (h : Header) (s vs byte
     → read_as (words vs) b ≡ fill (words bytes) 0 (reads h s) → tail vs ≡ tail bytes → vs ≡ filled reads (Some h) s bytes
 unfolding filled
 part_filled reads h s vs bytes {b} f w r = sym (bytes_words vs f) ∙ rw (fill_words (words vs) (words bytes) b (reads h s) w, r)
+
+-- a text of which the header is good
+module _ (s : List ℕ) (h : Header) (e : read_header s ≡ Some h) {b : Bool} (g : b ≡ ((read_nodes h s).good && (read_list h s).good && (read_names h s).good)) where
+  pub text_good : b ≡ true → Some h ≡ read_text s
+  unfolding read_text checked_head
+  text_good t = rw (e, ← g, t)
+
+  pub text_fault : b ≡ false → None ≡ read_text s
+  unfolding read_text checked_head
+  text_fault t = rw (e, ← g, t)
+
+-- and of which it is bad
+module _ (s : List ℕ) (e : read_header s ≡ None) where
+  pub text_bad : None ≡ read_text s
+  unfolding read_text checked_head
+  text_bad = rw e
+
+  pub text_unread : (reads : Header → List ℕ → Read) (bytes : List ℕ) → bytes ≡ filled reads (read_header s) s bytes
+  unfolding filled
+  text_unread reads bytes = rw e
