@@ -2,9 +2,9 @@
 use Rattle.std.specs.Prelude.{Option, Some}
 use Prim.Native.Nat.{ℕ, suc, ◌+◌, ◌-◌, ◌%◌, ◌<◌, ◌≤◌}
 use native.Mathlib.Omega.{arith}
-use mathlib.Core.Path.{◌≡◌, refl, sym}
+use mathlib.Core.Path.{◌≡◌, refl, sym, ◌∙◌}
 use mathlib.Core.Logic.{◌≢◌, ◌⊎◌, inl, inr}
-use mathlib.Core.Bool.{true, cond}
+use mathlib.Core.Bool.{Bool, true, false, cond}
 use mathlib.Core.List.{List, [], ◌∷◌}
 use lib.Dec.{eqb}
 use lib.ListN.{get_or}
@@ -19,18 +19,42 @@ use Rattle.runtime.specs.declared.operand.Operand.{Operand}
 use Rattle.runtime.specs.Instruction.{words_of}
 use Rattle.runtime.specs.Operands.{reg_of}
 use Rattle.lowering.specs.declared.State.{State}
-use Rattle.lowering.specs.Tree.{Tree, span_start, span_end}
+use Rattle.lowering.specs.Tree.{Tree, node, span_start, span_end}
 use Rattle.lowering.specs.Checked.{Checked, IfBelow, CallBelow}
 use Rattle.lowering.specs.Walk.{Made, made, Outcome, Walk, bind, ◌>>=◌, ◌>>◌, ret}
 use Rattle.lowering.specs.Steps.{free_temp, destination, emit, patch_to_next, mark}
 use Rattle.lowering.specs.Lower.{refuse, lower_materializing, lower_arguments, lower_else, lower_node, lower_expression, lower_jump_if_false}
 use Rattle.patch.specs.Arguments.{mark_argument}
 use Rattle.steps.specs.declared.answer.Stepped.{Stepped}
-use Rattle.steps.specs.Answers.{register_at, settled, seen, refusal_at, names_node, error_at, word_end, unit_at}
+use Rattle.steps.specs.Answers.{register_at, operand_at, settled, seen, is_refusal, is_inner, value_of, refusal_at, names_node, error_at, word_end, unit_at}
 use Rattle.steps.proofs.Words.{register_at_local}
-use Rattle.steps.proofs.Chains.{seen_refusal, seen_word}
-use Rattle.codegen.specs.Kinds.{and_kind, or_kind, if_kind, call_kind}
-use Rattle.codegen.proofs.Walk.{below_of, expression_of}
+use Rattle.steps.proofs.Chains.{stop_by, seen_refusal, seen_word}
+use Rattle.codegen.specs.Kinds.{binary_kind, and_kind, or_kind, if_kind, call_kind}
+use Rattle.codegen.proofs.Walk.{below_of, expression_of, then_into}
+use Rattle.codegen.proofs.Children.{into_of}
+
+-- ---- a child in d
+
+-- from k, p, q and s: `peek_into` left k₁, p₁, q₁ and f, and `lower_materializing` k₂, p₂, q₂ and r
+module _ {t : Tree} {k k₁ k₂ p p₁ p₂ q q₁ q₂ : List ℕ} {s : State} {f r : Stepped State} {n : ℕ} (d : Register) (checked : Checked t)
+    (peeked : (is_inner f.answer ≡ false → settled (lower_materializing (lower_expression free_temp t n) (Some d) (made k p q s)) ≡ seen t register_at (made k₁ p₁ q₁ f.after) f.answer)
+    × ((is_inner f.answer ≡ true → ((f.after ≡ s) × ((k₁ ≡ k) × ((p₁ ≡ p) × (q₁ ≡ q)))) × ((value_of f.answer ≤ n) × (binary_kind ≤ node_word t.nodes (value_of f.answer) 0)))
+    × ((e : Register) (m : Made) → is_inner f.answer ≡ true →
+    lower_materializing (lower_expression free_temp t n) (Some e) m ≡ lower_materializing (lower_expression free_temp t (value_of f.answer)) (Some e) m)))
+    (walked : (is_inner f.answer ≡ true →
+    settled (lower_expression free_temp t (value_of f.answer) (Some d) (made k₁ p₁ q₁ s)) ≡ seen t (operand_at (node t (value_of f.answer))) (made k₂ p₂ q₂ r.after) r.answer)
+    × (is_inner f.answer ≡ false → (r ≡ f) × ((k₂ ≡ k₁) × ((p₂ ≡ p₁) × (q₂ ≡ q₁))))) where
+  branch : settled (lower_materializing (lower_expression free_temp t n) (Some d) (made k p q s)) ≡ seen t register_at (made k₂ p₂ q₂ r.after) r.answer
+  branch = into_of checked d peeked.1.0 peeked.1.1 walked.0 walked.1 peeked.0
+
+  module _ {B : Type 0} (rest : Register → Walk B) {b : Bool} (told : b ≡ is_refusal r.answer) where
+    pub then_branch_lem : {o : Outcome B} → b ≡ false → settled (rest d (made k₂ p₂ q₂ r.after)) ≡ o →
+        settled (bind (lower_materializing (lower_expression free_temp t n) (Some d) (made k p q s)) rest) ≡ o
+    then_branch_lem left o = then_into t _ rest n d _ r.answer branch (sym told ∙ left) o
+
+    pub stop_branch : (gives : ℕ → B) → b ≡ true →
+        settled (bind (lower_materializing (lower_expression free_temp t n) (Some d) (made k p q s)) rest) ≡ seen t gives (made k₂ p₂ q₂ r.after) r.answer
+    stop_branch gives taken = stop_by t _ register_at _ r.answer rest branch gives told taken
 
 -- ---- the end of an arm
 

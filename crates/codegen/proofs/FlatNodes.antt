@@ -148,7 +148,7 @@ module _ (t : Tree) (asked : Asked) (d i : ℕ) (m : Made) where
 -- ---- names
 
 -- a name's word is no literal's
-name_word : {o : Option ℕ} {w : ℕ} → LocalOr o → o ≡ Some w → w ≢ literal_word
+pub name_word : {o : Option ℕ} {w : ℕ} → LocalOr o → o ≡ Some w → w ≢ literal_word
 name_word local h e = let word = local_word local h in omega arith
 
 -- a name, by the word of its register

@@ -70,9 +70,13 @@ any_registers t gives m a rs rs' h = seen_stopped t gives (with_registers rs m) 
 
 -- ---- whether a node was flat
 
--- it may be, by what `is_simple` says
-pub simple_kind : (k : ℕ) {b : Bool} → b ≡ leb k binary_kind → b ≡ true → k ≤ binary_kind
-simple_kind k told taken = leb-true k binary_kind (sym told ∙ taken)
+-- it may be, or is a later kind, by what `is_simple` says
+module _ (k : ℕ) {b : Bool} (told : b ≡ leb k binary_kind) where
+  pub simple_kind : b ≡ true → k ≤ binary_kind
+  simple_kind taken = leb-true k binary_kind (sym told ∙ taken)
+
+  pub not_simple : b ≡ false → binary_kind ≤ k
+  not_simple left = omega (arith, leb-false k binary_kind (sym told ∙ left))
 
 -- a node that is left to the walk, by the answer
 module _ (a i : ℕ) (told : a ≡ word_end + i) (small : i < word_end) where

@@ -5,8 +5,8 @@ use mathlib.Core.Logic.{◌≢◌}
 use Prim.Native.Nat.{ℕ, zero, suc, ◌+◌, ◌*◌, ◌-◌, ◌/◌, ◌%◌, ◌^◌, ◌<◌, ◌≤◌}
 use native.Mathlib.Omega.{arith}
 use native.Mathlib.Numerals.{one-add}
-use native.Mathlib.Nat.{pow-suc, one-mul, mod-eq_of_lt}
-use lib.Pow.{shr-shr, pow_pos, pow-lt}
+use native.Mathlib.Nat.{pow-suc, one-mul, mul-suc, mul_comm, mod-eq_of_lt}
+use lib.Pow.{shr-shr, pow_pos, pow-lt, low, suc_ones}
 use lib.Bits.{bit_xor, bit_and, xor_step, xor_zero_r, and_mask, differ}
 use lib.Count.{count_trailing_zeros, under}
 use Rattle.environment.specs.Bits.{bit, clear, flip}
@@ -117,6 +117,17 @@ pub shift_one : (k : ℕ) → k < 64 → (1 * 2 ^ k) % 18446744073709551616 ≡ 
 shift_one k h =
     let b : 2 ^ k < 2 ^ 64 = pow-lt h in
     ap (λ x. x % 18446744073709551616) (one-mul (2 ^ k)) ∙ mod-eq_of_lt b
+
+-- `0xffff_ffff_ffff_ffff << k`
+times_greatest : (m q : ℕ) → q ≤ m → m * suc q ≡ q * suc m + (m - q)
+times_greatest m q h = omega (arith, mul-suc m q, mul-suc q m, mul_comm m q)
+
+pub shift_ones : (k : ℕ) → k < 64 → (18446744073709551615 * 2 ^ k) % 18446744073709551616 ≡ 2 ^ 64 - 2 ^ k
+shift_ones k h =
+    let b : 2 ^ k < 2 ^ 64 = pow-lt h in
+    let q : 18446744073709551615 - (2 ^ k - 1) ≡ 2 ^ 64 - 2 ^ k = omega (arith, pow_pos k) in
+    ap (λ x. (18446744073709551615 * x) % 18446744073709551616) (sym (suc_ones k)) ∙ ap (λ x. x % 18446744073709551616) (times_greatest 18446744073709551615 (2 ^ k - 1) (omega arith))
+    ∙ low (2 ^ k - 1) 64 (omega arith) ∙ q
 
 module _ (k : ℕ) where
   half_pow : 2 ^ suc k / 2 ≡ 2 ^ k

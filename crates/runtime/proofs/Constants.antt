@@ -2,16 +2,17 @@
 use mathlib.Core.Path.{◌≡◌, refl, sym, ap, ◌∙◌}
 use mathlib.Core.List.{List, [], ◌∷◌}
 use mathlib.Core.Logic.{◌↔◌}
-use mathlib.Core.Bool.{Bool, true, false, not, cond, false≢true}
+use mathlib.Core.Bool.{true, false, not, cond}
 use Prim.Native.Nat.{ℕ, zero, suc, ◌+◌, ◌*◌, ◌/◌, ◌%◌, ◌≤◌, ◌<◌}
 use native.Mathlib.Omega.{arith}
 use native.Mathlib.Nat.{div-add-mod}
 use lib.Dec.{T, eqb, ltb}
 use lib.ListN.{length, get_or}
-use lib.Ieee.{Float, nan, inf, fin, binary64, fits, is_nan, nan_bits}
+use lib.Ieee.{Float, binary64, fits, is_nan, nan_bits}
 use lib.Ieee.Bits.{is_false, of_bits-to_bits, to_bits-lt, to_bits-of_bits, nan_bits_is, nan_bits_above}
 use borrow.Author.Tests.{ltb-false, ne_eqb}
 use Rattle.runtime.specs.declared.operand.Operand.{Operand}
+use Rattle.runtime.proofs.Floats.{not_nan}
 use Rattle.runtime.specs.Value.{constant_width, number_of, number_bits, constant_words, tag_nil, tag_bool, tag_string, parts_bits, value_bits, Admitted}
 
 -- a constant is three words
@@ -24,17 +25,6 @@ constant_width_lem (Operand.String symbol) = refl
 constant_width_lem (Operand.Register r) = refl
 
 -- ---- numbers
-
--- what is a NaN is `nan`
-pub is_nan_lem : (x : Float) → is_nan x ≡ true → x ≡ nan
-unfolding is_nan
-is_nan_lem nan h = refl
-is_nan_lem (inf s) h = absurd (false≢true h)
-is_nan_lem (fin s m e) h = absurd (false≢true h)
-
-pub not_nan : (b : Bool) → b ≡ false → T (not b)
-not_nan false h = tt
-not_nan true h = absurd (false≢true (sym h))
 
 -- a node's words to a number and back: bits that are no NaN's stay as they are
 pub number_exact : (low high : ℕ) → low < 4294967296 → high < 4294967296 → nan_bits binary64 (4294967296 * high + low) ≡ false →

@@ -1,3 +1,4 @@
+mod Floats
 pub mod Encoding
 pub mod Constants
 pub mod Pool

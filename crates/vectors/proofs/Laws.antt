@@ -6,7 +6,7 @@ use Rattle.std.specs.List.{position, position_or_len}
 use Prim.Native.Nat.{ℕ, zero, suc, ◌+◌, ◌-◌, ◌≤◌, ◌<◌}
 use native.Mathlib.Omega.{arith}
 use native.Mathlib.Decide.{dec_le}
-use native.Mathlib.Numerals.{unary_clauses}
+use native.Mathlib.Numerals.{add-one, unary_clauses}
 use mathlib.Core.Path.{◌≡◌, refl, sym, ap, ◌∙◌}
 use mathlib.Core.List.{List, [], ◌∷◌}
 use mathlib.Core.Bool.{Bool, true, false, not, cond}
@@ -43,6 +43,19 @@ line_found s r e = rw e (go (ltb (before_feed s) (length s)) refl)
         → MatchOption (cond here (Some (before_feed s)) None) (line_length s ≡ length s) (λ i. line_length s ≡ i + 1)
     go true l = (line_length_lem s).0 (ltb-true _ _ l)
     go false l = (line_length_lem s).1 (ltb-false _ _ l)
+
+module _ (s : List ℕ) (i : ℕ) where
+  pub line_end_out : length s ≤ i → line_end s i ≡ i
+  unfolding line_length
+  line_end_out l = rw (drop_of_length-le s l) (omega arith)
+
+  pub line_end_feed : i < length s → get_or s i 0 ≡ line_feed → line_end s i ≡ i + 1
+  unfolding line_length
+  line_end_feed l e = rw (drop-cons s i 0 l, e)
+
+  pub line_end_more : i < length s → (get_or s i 0 ≡ line_feed → ⊥) → line_end s i ≡ line_end s (i + 1)
+  unfolding line_length
+  line_end_more l n = rw (drop-cons s i 0 l, ne_eqb (get_or s i 0) line_feed n, add-one i) (omega arith)
 
 -- ---- comments
 
