@@ -41,6 +41,7 @@ use Rattle.steps.specs.declared.answer.Stepped.{Stepped}
 use Rattle.steps.specs.Answers.{register_at, literal_word, operand_at, source_at, place_at, word_end, refusal_at, is_refusal, value_of, names_node, error_at, settled, seen, state_of}
 use Rattle.steps.proofs.Chains.{got, stop_by, nested, seen_given, seen_word, seen_refusal}
 use Rattle.steps.proofs.Words.{source_operand, reg_of_register_at}
+use Rattle.codegen.specs.Ready.{InArena}
 use Rattle.codegen.specs.Kinds.{name_kind, key_operand, set_opcode}
 use Rattle.codegen.proofs.FlatNodes.{then_leaf}
 
@@ -97,6 +98,14 @@ field_step t c src code marks {pool} {pool₁} {counts} {r} rs n pooled held = g
         rw (ne_eqb src literal_word l, (held l).0, (held l).1) (sym (seen_word t place_at _ (reg_of (register_at src)) small))
 
 -- ---- an entry by its key
+
+-- the node whose value an entry gets is in the arena
+pub child_inside : (nodes : List ℕ) (key value child : ℕ) → InArena nodes key → (value ≢ absent → InArena nodes value) → child ≡ cond (eqb value absent) key value → InArena nodes child
+child_inside nodes key value child key_inside value_inside is = rw is (go (ℕ_discrete value absent))
+  where
+    go : Dec (value ≡ absent) → InArena nodes (cond (eqb value absent) key value)
+    go (yes h) = rw (eq-eqb value absent h) key_inside
+    go (no h) = rw (ne_eqb value absent h) (value_inside h)
 
 -- it is the value, if there is one
 pub valued : (key value : ℕ) → value ≢ absent → value ≡ cond (eqb value absent) key value
