@@ -17,17 +17,18 @@ use borrow.Author.Tests.{ltb-true, leb-true, lt-ltb, le-ltb, le-leb, lt-leb, eq-
 use Rattle.std.proofs.lemmas.Bool.{and_parts}
 use Rattle.diagnostics.specs.declared.Refusal.{Refusal}
 use Rattle.words.specs.Words.{words}
+use Rattle.words.specs.declared.Appended.{Appended}
 use Rattle.words.specs.Records.{max_count, capacity, record_at, put_record, is_at, position_from, position, buffer, append}
 use Rattle.pool_index.specs.Hidden.{hide}
 use Rattle.words.proofs.Search.{first}
 use Rattle.words.proofs.Records.{record_same, record_other, record_word, append_room, append_full, append_limit}
-use Rattle.pool_index.proofs.Records.{appended_found, answered_at, answered_full}
+use Rattle.pool_index.proofs.Records.{appended_found, appended_new, appended_full, answered_at, answered_full}
 use Rattle.pool_index.proofs.Hiding.{none_hidden, hide_capacity, found_position, none_position, findable_put}
 use Rattle.pool_index.proofs.Positions.{put_at, put_here, put_not_here, put_found, put_none, put_new}
 use Rattle.runtime.specs.declared.operand.Operand.{Operand}
 use Rattle.runtime.specs.Value.{constant_width, constant_words}
 use Rattle.runtime.specs.Function.{store_constant}
-use Rattle.pool_index.specs.Index.{full, appended, slots, links, slot_of, chained, linked, find, indexed, blank, pool_of}
+use Rattle.pool_index.specs.Index.{full, appended, slots, links, slot_of, chained, linked, find, indexed, indexed_by, blank, pool_of}
 use Rattle.runtime.proofs.Constants.{constant_width_lem}
 use Rattle.runtime.proofs.Pool.{store_pooled, store_new}
 
@@ -554,3 +555,33 @@ module _ (constants index : List ℕ) (count : ℕ) (few : count ≤ full) (c : 
             (append_full (words constants) count max_count r Refusal.Constants (rw long (omega (arith, h))))
             (append_full pool count max_count r Refusal.Constants (rw (long, same) (omega (arith, h))))
         go (no l) d = refused (append_limit (words constants) count max_count r Refusal.Constants (omega (arith, l))) (append_limit pool count max_count r Refusal.Constants (omega (arith, l)))
+
+  -- the same by the program's own answers: that the constant was found,
+  pub pool_kept : {p : ℕ} → p ≡ find (words constants) index count r → p < count → buffer (pool_of constants index count) (record { count = count; place = Ok p }) ≡ store_constant pool count c
+  pool_kept {p} e h = rw (appended_found count Refusal.Constants p h (omega (arith, h, few))) at (pool_stored e h)
+
+  -- or what `append` answers by its contract
+  module _ (absent : count ≤ find (words constants) index count r) (size : slots + links ≤ length index) (constants' : List ℕ) (answer : Appended)
+      (left : buffer (words constants') answer ≡ append (words constants) count max_count r Refusal.Constants) where
+    abbrev LeftBy : Type 0
+    LeftBy = buffer (pool_of constants' (indexed_by index answer.place (slot_of r)) answer.count) answer ≡ store_constant pool count c
+
+    -- by the number that stands for the answer
+    by_number : (p : ℕ) → appended count p Refusal.Constants ≡ answer → indexed index p (slot_of r) ≡ indexed_by index answer.place (slot_of r) → LeftBy
+    by_number p is_answer index_same = rw (is_answer, index_same) at (pool_appended absent size constants' p (rw is_answer left))
+
+    no_room : append (words constants) count max_count r Refusal.Constants ≡ buffer (words constants) (record { count = count; place = Err Refusal.Constants }) → LeftBy
+    unfolding indexed
+    no_room a =
+        let is_answer : answer ≡ record { count = count; place = Err Refusal.Constants } = ap (λ b. b.answer) (left ∙ a) in
+        by_number full (rw is_answer (appended_full count Refusal.Constants)) (rw is_answer)
+
+    pub pool_left : LeftBy
+    pool_left = go (dec_lt count max_count) (dec_lt count (capacity constant_width (words constants)))
+      where
+        go : Dec (count < max_count) → Dec (count < capacity constant_width (words constants)) → LeftBy
+        go (yes l) (yes h) =
+            let is_answer : answer ≡ record { count = count + 1; place = Ok count } = ap (λ b. b.answer) (left ∙ append_room (words constants) count max_count r Refusal.Constants l (rw long h)) in
+            by_number count (rw is_answer (appended_new count Refusal.Constants l)) (rw is_answer)
+        go (yes l) (no h) = no_room (append_full (words constants) count max_count r Refusal.Constants (rw long (omega (arith, h))))
+        go (no l) d = no_room (append_limit (words constants) count max_count r Refusal.Constants (omega (arith, l)))

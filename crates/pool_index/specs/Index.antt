@@ -1,6 +1,6 @@
 -- The pool's index: for a constant's words, where a search looks. A search that the index misleads passes a constant over, so the pool is said as its searches
 -- see it: a constant that is not found for its own words is hidden. Nothing is asked of an index.
-use Rattle.std.specs.Prelude.{ℕ, zero, suc, ◌+◌, ◌*◌, ◌-◌, ◌/◌, ◌%◌, cond, ◌&&◌, List, [], ◌∷◌, leb, ltb, eqb, get_or, set, Ok, Err}
+use Rattle.std.specs.Prelude.{ℕ, zero, suc, ◌+◌, ◌*◌, ◌-◌, ◌/◌, ◌%◌, cond, ◌&&◌, List, [], ◌∷◌, leb, ltb, eqb, get_or, set, Result, Ok, Err}
 use Rattle.words.specs.Words.{word_end, words}
 use Rattle.diagnostics.specs.declared.Refusal.{Refusal}
 use Rattle.words.specs.declared.Appended.{Appended}
@@ -54,6 +54,11 @@ find ws index count r =
 -- the index once a constant of slot h is at place n: it is the first of its chain
 unfoldable pub indexed : List ℕ → ℕ → ℕ → List ℕ
 indexed index n h = cond (ltb n links) (set (set index (slots + n) (get_or index h 0)) h (n + 1)) index
+
+-- the index once an append has answered for a constant of slot h: it is at its place, or there was no room and nothing changes
+abbrev pub indexed_by : List ℕ → Result ℕ Refusal → ℕ → List ℕ
+indexed_by index (Ok n) h = indexed index n h
+indexed_by index (Err refusal) h = index
 
 -- what stands for a hidden constant: its kind is no word
 abbrev pub blank : List ℕ
