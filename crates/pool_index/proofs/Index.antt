@@ -560,6 +560,12 @@ module _ (constants index : List ℕ) (count : ℕ) (few : count ≤ full) (c : 
   pub pool_kept : {p : ℕ} → p ≡ find (words constants) index count r → p < count → buffer (pool_of constants index count) (record { count = count; place = Ok p }) ≡ store_constant pool count c
   pool_kept {p} e h = rw (appended_found count Refusal.Constants p h (omega (arith, h, few))) at (pool_stored e h)
 
+  -- and not that it was counted again,
+  pub kept_counted_refuted : {p : ℕ} → p ≡ find (words constants) index count r → p < count → buffer (pool_of constants index count) (record { count = count + 1; place = Ok p }) ≢ store_constant pool count c
+  kept_counted_refuted {p} e h wrong =
+      let same : count + 1 ≡ count = ap (λ b. b.answer.count) (wrong ∙ sym (pool_kept e h)) in
+      omega (arith, same)
+
   -- or what `append` answers by its contract
   module _ (absent : count ≤ find (words constants) index count r) (size : slots + links ≤ length index) (constants' : List ℕ) (answer : Appended)
       (left : buffer (words constants') answer ≡ append (words constants) count max_count r Refusal.Constants) where

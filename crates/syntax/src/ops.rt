@@ -60,7 +60,7 @@ impl AsBinaryOp for u32 {
     }
 }
 
-// A unary operator, or a word, likewise.
+// A unary operator, or a word, likewise. A trait of its own: of one over the type of the operator, a word would have two methods of one name, told apart by the type that is asked for.
 pub trait AsUnaryOp {
     ghost use Rattle.syntax.specs.declared.ops.UnaryOp.{UnaryOp};
 
